@@ -1,0 +1,4 @@
+pub mod Refusals
+pub mod Prices
+pub mod Range
+pub mod Points
