@@ -1,12 +1,14 @@
 -- What a grid and a price point hold, and what making one answers.
 use Prim.Native.Nat.{ℕ}
 use mathlib.Core.List.{List}
-use lib.ListN.{take}
+use lib.ListN.{length, take}
 use Rattle.std.specs.declared.result.Result.{Result}
 use Rattle.std.specs.declared.result.Result.the-variants.{Ok, Err}
+use mathlib.Core.Bool.{Bool, _&&_}
+use lib.Dec.{eqb}
 use Rattle.mesh.specs.Range.{goodsFit, meshFits, addsUp}
 use Rattle.mesh.specs.Refusals.{Told, insist}
-use Rattle.mesh.specs.Prices.{levels}
+use Rattle.mesh.specs.Prices.{first, falls, toPrices}
 use Rattle.mesh.specs.declared.grid.Grid.{Grid}
 use Rattle.mesh.specs.declared.point.PricePoint.{PricePoint}
 
@@ -41,3 +43,12 @@ gridFor g D = insist (goodsFit g) 1 (insist (meshFits g D) 2 (Ok (g, D)))
 abbrev pub pointFor : ℕ → ℕ → List ℕ → Result Priced Told
 pointFor g D x =
   insist (goodsFit g) 1 (insist (meshFits g D) 2 (insist (addsUp g D x) 3 (Ok (record { goods = g; mesh = D; prices = x }))))
+
+-- g levels that fall from D.
+abbrev pub levelsFit : ℕ → ℕ → List ℕ → Bool
+levelsFit g D u = eqb (length u) g && (eqb (first u) D && falls u)
+
+-- Making a price point from levels: refused as from prices, with 3 for anything but g levels that fall from the mesh.
+abbrev pub pointAtLevels : ℕ → ℕ → List ℕ → Result Priced Told
+pointAtLevels g D u =
+  insist (goodsFit g) 1 (insist (meshFits g D) 2 (insist (levelsFit g D u) 3 (Ok (record { goods = g; mesh = D; prices = toPrices u }))))

@@ -3,6 +3,8 @@
 use Prim.Native.Nat.{ℕ}
 use mathlib.Core.List.{List, [], _∷_}
 use mathlib.Core.Bool.{Bool, cond}
+use Rattle.std.specs.declared.option.Option.{Option}
+use Rattle.std.specs.declared.option.Option.the-variants.{Some, None}
 use Rattle.std.specs.declared.result.Result.{Result}
 use Rattle.std.specs.declared.result.Result.the-variants.{Ok, Err}
 use Rattle.mesh.specs.declared.refusal.Refusal.{Refusal}
@@ -34,3 +36,12 @@ answered f (Err e) = Err (told e)
 -- The refusal with this number, carrying nothing, unless the test holds: written one in another, these are checks in their order.
 abbrev pub insist : {B : Type 0} → Bool → ℕ → Result B Told → Result B Told
 insist test number go = cond test go (Err (number, []))
+
+-- The first of some values, if there is one.
+abbrev pub headOf : List ℕ → Option ℕ
+headOf [] = None
+headOf (n ∷ ns) = Some n
+
+-- The value that a refusal carries, where it carries one.
+abbrev pub carriedBy : Told → Option ℕ
+carriedBy t = headOf (t .1)

@@ -4,6 +4,9 @@ ghost use lib.ListN.{length, take};
 ghost use Rattle.std.specs.shelf.Lists.{sum};
 use crate::grid::Grid;
 
+mod levels;
+mod make;
+
 // No value of this type has prices that do not add up to its mesh. The entries past the goods never matter.
 #[derive(Clone, Copy)]
 pub struct PricePoint {

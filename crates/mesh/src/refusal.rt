@@ -1,4 +1,5 @@
 // Why a call was refused. Every call of the library that can refuse answers with one of these.
+mod tells;
 
 #[derive(Clone, Copy, Debug, PartialEq, Eq)]
 pub enum Refusal {

@@ -1,0 +1,5 @@
+pub mod Steps
+pub mod Fields
+pub mod Reading
+pub mod Written
+pub mod Meaning

@@ -1,0 +1,4 @@
+pub mod Price
+pub mod Fill
+pub mod Levels
+pub mod PointLevels

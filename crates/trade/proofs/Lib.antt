@@ -1,0 +1,5 @@
+pub mod Goods
+pub mod Walras
+pub mod Search
+pub mod Dots
+pub mod Labelling
