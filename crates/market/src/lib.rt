@@ -1,0 +1,3 @@
+// Markets: what traders own and how they weigh the goods, and the market file that says it.
+pub mod market;
+pub mod rows;

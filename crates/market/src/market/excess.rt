@@ -1,0 +1,148 @@
+// What is owned and demanded of a good, and the excess.
+ghost use mathlib.Core.Path.{_≡_};
+ghost use Prim.Native.Nat.{ℕ, _+_, _*_, _≤_, _<_};
+ghost use lib.ListN.{length};
+ghost use Rattle.trade.specs.Trade.{dot, demand, ownedInAll, excess, clears};
+ghost use Rattle.std.specs.shelf.Lists.{sum};
+ghost use Rattle.mesh.specs.Refusals.{answered};
+ghost use Rattle.mesh.specs.Points.{goodsOf, meshOf, pricesOf};
+ghost use Rattle.market.specs.Markets.{tradersOf, excessFor, ownedFor, marketRule, LabelledBy};
+use super::Market;
+use crate::rows::Amounts;
+use labelling::Labelling;
+use mesh::point::PricePoint;
+use mesh::refusal::Refusal;
+
+// What an endowment is worth at these prices.
+fn worth(prices: &[u32], owned: &Amounts) -> u64
+    requires { ⌜ length (now prices) ≤ 8 ⌝ ∗ ⌜ sum (now prices) ≤ 16384 ⌝ ∗ ⌜ length (now prices) ≤ length (now owned .of) ⌝ }
+    ensures value { λ r. ⌜ r ≡ dot (now (prices .entry)) (now (owned .entry) .of) ⌝ }
+    ensures small { λ r. ⌜ r ≤ 1073725440 ⌝ }
+{
+    let mut income = 0u64;
+    for k in 0..prices.len() {
+        income += u64::from(prices[k]) * u64::from(owned.of[k]);
+    }
+    income
+}
+
+impl Market {
+    // How many goods are traded.
+    pub fn goods(&self) -> usize
+        ensures { λ r. ⌜ r ≡ now (self .entry) .numbers .goods ⌝ }
+    {
+        self.numbers.goods
+    }
+
+    // What each trader's weights add up to.
+    pub fn weight_sum(&self) -> u32
+        ensures { λ r. ⌜ r ≡ now (self .entry) .numbers .sum ⌝ }
+    {
+        self.numbers.sum
+    }
+
+    // How many traders there are.
+    pub fn traders(&self) -> usize
+        ensures { λ r. ⌜ r ≡ length (tradersOf (now (self .entry))) ⌝ }
+    {
+        self.numbers.traders
+    }
+
+    // What all traders own of a good.
+    fn owned(&self, good: usize) -> u32
+        requires { ⌜ 1 ≤ good ⌝ ∗ ⌜ good ≤ now self .numbers .goods ⌝ }
+        ensures value { λ r. ⌜ r ≡ ownedInAll (tradersOf (now (self .entry))) good ⌝ }
+        ensures small { λ r. ⌜ r ≤ 1048560 ⌝ }
+    {
+        let mut sum = 0u32;
+        for a in 0..self.numbers.traders {
+            sum += u32::from(self.numbers.endowments[a].of[good - 1]);
+        }
+        sum
+    }
+
+    // What all traders spend on a good at these prices, times the weight sum.
+    fn demanded(&self, prices: &[u32], good: usize) -> u64
+        requires goods { ⌜ 1 ≤ good ⌝ ∗ ⌜ good ≤ now self .numbers .goods ⌝ }
+        requires prices { ⌜ length (now prices) ≡ now self .numbers .goods ⌝ ∗ ⌜ sum (now prices) ≤ 16384 ⌝ }
+        ensures value { λ r. ⌜ r ≡ demand (tradersOf (now (self .entry))) (now (prices .entry)) good ⌝ }
+        ensures small { λ r. ⌜ r ≤ 1125865547366400 ⌝ }
+    {
+        let mut sum = 0u64;
+        for a in 0..self.numbers.traders {
+            let income = worth(prices, &self.numbers.endowments[a]);
+            sum += u64::from(self.numbers.weights[a].of[good - 1]) * income;
+        }
+        sum
+    }
+
+    // What all there is of a good is worth, times the weight sum.
+    fn supplied(&self, price: u32, good: usize) -> u64
+        requires { ⌜ 1 ≤ good ⌝ ∗ ⌜ good ≤ now self .numbers .goods ⌝ ∗ ⌜ price ≤ 16384 ⌝ }
+        ensures value { λ r. ⌜ r ≡ now (self .entry) .numbers .sum * price * ownedInAll (tradersOf (now (self .entry))) good ⌝ }
+        ensures small { λ r. ⌜ r ≤ 17179607040000 ⌝ }
+    {
+        u64::from(self.numbers.sum) * u64::from(price) * u64::from(self.owned(good))
+    }
+
+    // The excess of a good of the market at a point of as many goods.
+    fn excess_at(&self, good: usize, point: &PricePoint) -> i64
+        requires { ⌜ 1 ≤ good ⌝ ∗ ⌜ good ≤ now self .numbers .goods ⌝ ∗ ⌜ goodsOf (now point) ≡ now self .numbers .goods ⌝ }
+        ensures { λ r. ⌜ r ≡ excess (now (self .entry) .numbers .sum) (tradersOf (now (self .entry))) (pricesOf (now (point .entry))) good ⌝ }
+    {
+        let demand = self.demanded(point.prices(), good);
+        let supply = self.supplied(point.price(good), good);
+        demand as i64 - supply as i64
+    }
+
+    // The excess of one good at a point. Refuses a good that the market does not have, then a point with another number of goods.
+    pub fn excess(&self, good: usize, point: &PricePoint) -> Result<i64, Refusal>
+        ensures { λ r. ⌜ answered (λ z. z) r ≡ excessFor (now (self .entry)) good (now (point .entry)) ⌝ }
+    {
+        if good < 1 || good > self.numbers.goods {
+            return Err(Refusal::NoSuchGood);
+        }
+        if point.goods() != self.numbers.goods {
+            return Err(Refusal::NotAPricePoint);
+        }
+        Ok(self.excess_at(good, point))
+    }
+
+    // What is owned of one good in all. Refuses a good that the market does not have.
+    pub fn owned_in_all(&self, good: usize) -> Result<u32, Refusal>
+        ensures { λ r. ⌜ answered (λ n. n) r ≡ ownedFor (now (self .entry)) good ⌝ }
+    {
+        if good < 1 || good > self.numbers.goods {
+            return Err(Refusal::NoSuchGood);
+        }
+        Ok(self.owned(good))
+    }
+
+    // A good with a price that is not short.
+    fn clears_at(&self, good: usize, point: &PricePoint) -> bool
+        requires { ⌜ 1 ≤ good ⌝ ∗ ⌜ good ≤ now self .numbers .goods ⌝ ∗ ⌜ goodsOf (now point) ≡ now self .numbers .goods ⌝ }
+        ensures { λ r. ⌜ r ≡ clears (now (self .entry) .numbers .sum) (tradersOf (now (self .entry))) (pricesOf (now (point .entry))) good ⌝ }
+    {
+        point.price(good) > 0 && self.excess_at(good, point) <= 0
+    }
+}
+
+pub impl Labelling for Market as MarketLabelling {
+    ghost rule = { marketRule };
+
+    // The smallest good with a price that is not short. At a point of as many goods there always is one.
+    fn label(&self, point: &PricePoint) -> u8
+        ensures value { λ r. ⌜ r ≡ marketRule (now (self .entry)) (goodsOf (now (point .entry))) (meshOf (now (point .entry))) (pricesOf (now (point .entry))) ⌝ }
+        ensures found { λ r. ⌜ (goodsOf (now (point .entry)) ≡ now (self .entry) .numbers .goods → LabelledBy (now (self .entry)) (now (point .entry)) r) ⌝ }
+    {
+        if point.goods() != self.numbers.goods {
+            return 0;
+        }
+        for j in 0..self.numbers.goods {
+            if self.clears_at(j + 1, point) {
+                return (j + 1) as u8;
+            }
+        }
+        0
+    }
+}
