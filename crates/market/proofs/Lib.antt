@@ -1,3 +1,4 @@
 pub mod Worth
 pub mod TraderRows
 pub mod MarketLabel
+pub mod FieldChecks

@@ -1,3 +1,4 @@
 // Markets: what traders own and how they weigh the goods, and the market file that says it.
+pub mod field;
 pub mod market;
 pub mod rows;
