@@ -1,5 +1,6 @@
 -- One field more: its bytes, and what they say.
 --   values-two, values-both           numbers of two bytes read back as they were written
+--   two-bytes                         two bytes are written as they were read
 --   field-here                        bytes that begin with a whole field: that field, and what comes after it
 --   one-name, the-sum, one-trader     the bytes of good fields and one more
 --   all-print                         a name that passes the test has printing characters only
@@ -37,6 +38,10 @@ high-byte h l low = ap (λ n. (n + l) / 256) (mul-comm 256 h) ∙ digits-div h l
 
 low-byte : (h l : ℕ) → l < 256 → (256 * h + l) % 256 ≡ l
 low-byte h l low = ap (λ n. (n + l) % 256) (mul-comm 256 h) ∙ digits-mod h low
+
+-- Two bytes are written as they were read.
+pub two-bytes : (h l : ℕ) → l < 256 → two (256 * h + l) ≡ h ∷ l ∷ []
+two-bytes h l low = ap (λ n. n ∷ (256 * h + l) % 256 ∷ []) (high-byte h l low) ∙ ap (λ n. h ∷ n ∷ []) (low-byte h l low)
 
 pub field-here :
     (bytes : List ℕ) → 3 ≤ length bytes → getD bytes 2 0 < 256 → 3 + lengthOf bytes ≤ length bytes

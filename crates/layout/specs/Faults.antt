@@ -34,7 +34,7 @@ abbrev pub Sound : Beginning → Type 0
 Sound empty = Unit {0}
 Sound (naming g names) = (goodsFit g ≡ true) × (length names ≤ g) × All NameFits names
 Sound (trading g names S traders) =
-  (goodsFit g ≡ true) × (length names ≡ g) × All NameFits names × (sumFits S ≡ true) × (length traders ≤ 16) × All (TraderFits g S) traders
+    (goodsFit g ≡ true) × (length names ≡ g) × All NameFits names × (sumFits S ≡ true) × (length traders ≤ 16) × All (TraderFits g S) traders
 
 -- Which field is due: a trader's is known by the goods and the weight sum.
 pub data Due : Type 0 where
@@ -116,12 +116,12 @@ check passes number others = cond passes others number
 -- The number of the first check that the field at the head of the bytes fails; 0 where it passes all.
 abbrev pub flaw : Due → List ℕ → ℕ
 flaw d bytes =
-  check (leb 3 (length bytes)) 21
-  (check (tagDue d (tagOf bytes)) 22
-  (check (lengthFits d (lengthOf bytes)) 23
-  (check (leb (3 + lengthOf bytes) (length bytes)) 21
-  (check (valueFits d (bodyOf bytes)) 24
-  (check (weightsFit d (bodyOf bytes)) 25 0)))))
+    check (leb 3 (length bytes)) 21
+    (check (tagDue d (tagOf bytes)) 22
+    (check (lengthFits d (lengthOf bytes)) 23
+    (check (leb (3 + lengthOf bytes) (length bytes)) 21
+    (check (valueFits d (bodyOf bytes)) 24
+    (check (weightsFit d (bodyOf bytes)) 25 0)))))
 
 -- The file begins with good fields and does not end there, and what follows fails a check. The refusal carries the place where it stands.
 pub record FieldFault (file : List ℕ) (t : Told) : Type 0 where

@@ -2,3 +2,15 @@ pub mod Worth
 pub mod TraderRows
 pub mod MarketLabel
 pub mod FieldChecks
+pub mod Words
+pub mod NameParts
+pub mod FieldTells
+pub mod Stages
+pub mod Grown
+pub mod Fitting
+pub mod Standing
+pub mod NextField
+pub mod Endings
+pub mod Turns
+pub mod OneField
+pub mod Finished

@@ -35,7 +35,7 @@ module _ (m : Market) (p : PricePoint) (same : goodsOf p ≡ m .numbers .goods) 
       let some : 0 < sum (pricesOf p) = omega (arith, p .«adds_up», p .grid .«mesh_fits» .0) in
       let here = label-exists (goodsOf p) (m .numbers .sum) (tradersOf m) (pricesOf p) fair (prices-size p) some in
       let is : marketLabel (goodsOf p) (m .numbers .sum) (tradersOf m) (pricesOf p) ≡ l
-          = ap (λ g. firstAfter g 0 (clears (m .numbers .sum) (tradersOf m) (pricesOf p))) same ∙ sym e in
+      = ap (λ g. firstAfter g 0 (clears (m .numbers .sum) (tradersOf m) (pricesOf p))) same ∙ sym e in
       let labels : Labels (goodsOf p) (m .numbers .sum) (tradersOf m) (pricesOf p) l = rw is at here in
       record { smallest = labels; proper = record { low = labels .low; high = labels .high; priced = labels .priced } }
 

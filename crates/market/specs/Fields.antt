@@ -40,11 +40,11 @@ dueTag layout.nothingDue = 0
 -- The checks of a field in their order, all but that of a trader's weights.
 abbrev pub early : layout.Due → List ℕ → ℕ
 early d bytes =
-  check (leb 3 (length bytes)) 21
-  (check (tagDue d (tagOf bytes)) 22
-  (check (lengthFits d (lengthOf bytes)) 23
-  (check (leb (3 + lengthOf bytes) (length bytes)) 21
-  (check (valueFits d (bodyOf bytes)) 24 0))))
+    check (leb 3 (length bytes)) 21
+    (check (tagDue d (tagOf bytes)) 22
+    (check (lengthFits d (lengthOf bytes)) 23
+    (check (leb (3 + lengthOf bytes) (length bytes)) 21
+    (check (valueFits d (bodyOf bytes)) 24 0))))
 
 -- The field at the head of the bytes, which stand at a place of the file, where d is due.
 abbrev pub fieldFor : layout.Due → List ℕ → ℕ → Result (ℕ × List ℕ × ℕ) Told

@@ -1,3 +1,7 @@
 pub mod Rows
 pub mod Markets
 pub mod Fields
+pub mod Reading
+pub mod Adding
+pub mod Held
+pub mod Names

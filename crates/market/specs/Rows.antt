@@ -30,7 +30,7 @@ short (n ∷ ns) = ltb n 65536 && short ns
 -- A trader of g goods, in numbers of two bytes, whose weights add up to S.
 abbrev pub fits : ℕ → ℕ → Trader → Bool
 fits g S t =
-  (eqb (length (t .owns)) g && eqb (length (t .weighs)) g) && (eqb (sum (t .weighs)) S && (short (t .owns) && short (t .weighs)))
+    (eqb (length (t .owns)) g && eqb (length (t .weighs)) g) && (eqb (sum (t .weighs)) S && (short (t .owns) && short (t .weighs)))
 
 abbrev pub allFit : ℕ → ℕ → List Trader → Bool
 allFit g S [] = true

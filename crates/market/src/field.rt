@@ -2,6 +2,10 @@
 
 mod read;
 
+pub(crate) use read::byte_at;
+pub use read::next_field;
+pub(crate) use read::number_at;
+
 // A field: its body, which is a part of the file, and the place of its tag byte.
 #[derive(Clone, Copy)]
 pub enum Field<'f> {

@@ -7,6 +7,7 @@ ghost use Rattle.market.specs.Rows.{tradersIn, allFit};
 use crate::rows::Numbers;
 
 mod excess;
+mod make;
 
 #[derive(Clone, Copy)]
 pub struct Market {
@@ -14,6 +15,7 @@ pub struct Market {
     ghost goods_fit: { (2 ≤ numbers .goods) × (numbers .goods ≤ 8) },
     ghost sum_fits: { (1 ≤ numbers .sum) × (numbers .sum ≤ 1000) },
     ghost some_traders: { (1 ≤ numbers .traders) × (numbers .traders ≤ 16) },
+    ghost all_named: { (numbers .named ≡ numbers .goods) × (length (numbers .names) ≡ 8) },
     ghost rooms: { (length (numbers .endowments) ≡ 16) × (length (numbers .weights) ≡ 16) },
     ghost shares: { allFit (numbers .goods) (numbers .sum) (tradersIn (numbers .goods) (numbers .traders) (numbers .endowments) (numbers .weights)) ≡ true },
 }

@@ -71,11 +71,12 @@ falls-at u j f = below u j f
     top : (us : List ℕ) → getD us 0 0 ≤ first us
     top [] = omega arith
     top (v ∷ vs) = omega arith
+
     below : (u : List ℕ) (j : ℕ) → Falls u → getD u (j + 1) 0 ≤ getD u j 0
     below [] j f = omega arith
     below (u ∷ us) zero f = omega (arith, top us, f .0)
     below (u ∷ us) (suc j) f =
-      let e : suc j + 1 ≡ suc (j + 1) = omega arith in rw e (below us j (f .1))
+        let e : suc j + 1 ≡ suc (j + 1) = omega arith in rw e (below us j (f .1))
 
 pub falls-from : (u : List ℕ) → ((i : ℕ) → i + 1 < length u → getD u (i + 1) 0 ≤ getD u i 0) → falls u ≡ true
 falls-from [] h = refl
@@ -101,7 +102,6 @@ levels-end x arr j k e none-left =
 module _ (x arr : List ℕ) (g i s : ℕ) (in-x : i < length x) (in-arr : i < length arr) (below : i < g)
     (sum-so-far : s ≡ first (toLevels (drop (i + 1) x)))
     (levels-so-far : take (g - (i + 1)) (drop (i + 1) arr) ≡ toLevels (drop (i + 1) x)) where
-
   pub level-more : s + getD x i 0 ≡ first (toLevels (drop i x))
   level-more = rw (drop-more x i 0) (omega (arith, sum-so-far))
 
@@ -119,16 +119,17 @@ level-below x i = rw (first-levels (drop i x)) (omega (arith, sumBy-take-drop (�
 pub levels-turn : (P arr : List ℕ) (g j s : ℕ) → 0 < j → j ≤ g → g ≤ length P → g ≤ length arr
     → s ≡ first (toLevels (drop j (take g P))) → take (g - j) (drop j arr) ≡ toLevels (drop j (take g P))
     → (s + getD P (j - 1) 0 ≡ first (toLevels (drop (j - 1) (take g P))))
-      × (take (g - (j - 1)) (drop (j - 1) (set arr (j - 1) (s + getD P (j - 1) 0))) ≡ toLevels (drop (j - 1) (take g P)))
+    × (take (g - (j - 1)) (drop (j - 1) (set arr (j - 1) (s + getD P (j - 1) 0))) ≡ toLevels (drop (j - 1) (take g P)))
 levels-turn P arr g zero s low high in-P in-arr e f = absurd (omega arith)
 levels-turn P arr g (suc i) s low high in-P in-arr e f =
     let one : suc i - 1 ≡ i = omega arith in
     let more : suc i ≡ i + 1 = omega arith in
     let entry : getD (take g P) i 0 ≡ getD P i 0 = getD-take g P i 0 (omega arith) in
     let size : i < length (take g P) = simp length-take (omega arith) in
-    rw (one, ← entry)
-    ( level-more (take g P) arr g i s size (omega arith) (omega arith) (rw more at e) (rw more at f)
-    , levels-more (take g P) arr g i s size (omega arith) (omega arith) (rw more at e) (rw more at f) )
+    rw (one, ← entry) (
+      level-more (take g P) arr g i s size (omega arith) (omega arith) (rw more at e) (rw more at f),
+      levels-more (take g P) arr g i s size (omega arith) (omega arith) (rw more at e) (rw more at f),
+    )
 
 -- What the loop has summed: the levels, and what is known of them.
 pub levels-sums : (x r : List ℕ) (g : ℕ) → length x ≡ g → take g r ≡ toLevels x → (j : ℕ) → j < g → getD r j 0 ≡ sum (drop j x)

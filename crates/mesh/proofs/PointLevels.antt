@@ -32,7 +32,7 @@ module _ (p : PricePoint) where
   pub levels-go : (arr : List ℕ) (j s : ℕ) → 0 < j → j ≤ goodsOf p → length arr ≡ 8
       → s ≡ first (toLevels (drop j (pricesOf p))) → take (goodsOf p - j) (drop j arr) ≡ toLevels (drop j (pricesOf p))
       → (s + getD (p .prices) (j - 1) 0 ≡ first (toLevels (drop (j - 1) (pricesOf p))))
-        × (take (goodsOf p - (j - 1)) (drop (j - 1) (set arr (j - 1) (s + getD (p .prices) (j - 1) 0))) ≡ toLevels (drop (j - 1) (pricesOf p)))
+      × (take (goodsOf p - (j - 1)) (drop (j - 1) (set arr (j - 1) (s + getD (p .prices) (j - 1) 0))) ≡ toLevels (drop (j - 1) (pricesOf p)))
   levels-go arr j s low high size e f =
       let few = p .grid .«goods_fit» .1 in
       levels-turn (p .prices) arr (goodsOf p) j s low high (omega (arith, p .room)) (omega arith) e f
@@ -44,14 +44,15 @@ module _ (p : PricePoint) where
   -- What is known of the levels.
   pub levels-known : (r : List ℕ) → take (goodsOf p) r ≡ toLevels (pricesOf p)
       → ((j : ℕ) → j < goodsOf p → getD r j 0 ≡ sum (drop j (pricesOf p)))
-        × (toPrices (take (goodsOf p) r) ≡ pricesOf p)
-        × Falls (take (goodsOf p) r)
-        × (first (take (goodsOf p) r) ≡ meshOf p)
-  levels-known r e =
-      ( levels-sums (pricesOf p) r (goodsOf p) prices-size e
-      , ap toPrices e ∙ prices-levels (pricesOf p)
-      , rw e (falls-levels (pricesOf p))
-      , ap first e ∙ first-levels (pricesOf p) ∙ p .«adds_up» )
+      × (toPrices (take (goodsOf p) r) ≡ pricesOf p)
+      × Falls (take (goodsOf p) r)
+      × (first (take (goodsOf p) r) ≡ meshOf p)
+  levels-known r e = (
+    levels-sums (pricesOf p) r (goodsOf p) prices-size e,
+    ap toPrices e ∙ prices-levels (pricesOf p),
+    rw e (falls-levels (pricesOf p)),
+    ap first e ∙ first-levels (pricesOf p) ∙ p .«adds_up»,
+  )
 
 -- What the test of levels tells.
 pub fit-tells : (g D : ℕ) (u : List ℕ) → levelsFit g D u ≡ true → (length u ≡ g) × (first u ≡ D) × Falls u
@@ -79,7 +80,7 @@ grid-granted g D h E e = go (goodsFit g) (meshFits g D) refl refl e
     go : (a b : Bool) → goodsFit g ≡ a → meshFits g D ≡ b → _≡_ {A = Result (ℕ × ℕ) Told} (Ok (h, E)) (insist a 1 (insist b 2 (Ok (g, D))))
         → (goodsFit g ≡ true) × (meshFits g D ≡ true) × (h ≡ g) × (E ≡ D)
     go true true p q i =
-      let pair : _≡_ {A = ℕ × ℕ} (h, E) (g, D) = cc in (p, q, ap (λ z. z .0) pair, ap (λ z. z .1) pair)
+        let pair : _≡_ {A = ℕ × ℕ} (h, E) (g, D) = cc in (p, q, ap (λ z. z .0) pair, ap (λ z. z .1) pair)
     go true false p q i = let z : _≡_ {A = ℕ} 0 1 = cc in absurd (omega arith)
     go false b p q i = let z : _≡_ {A = ℕ} 0 1 = cc in absurd (omega arith)
 

@@ -42,7 +42,7 @@ gridFor g D = insist (goodsFit g) 1 (insist (meshFits g D) 2 (Ok (g, D)))
 -- Making a price point: 1 and 2 as for a grid, then 3 for anything but g prices that add up to the mesh.
 abbrev pub pointFor : ℕ → ℕ → List ℕ → Result Priced Told
 pointFor g D x =
-  insist (goodsFit g) 1 (insist (meshFits g D) 2 (insist (addsUp g D x) 3 (Ok (record { goods = g; mesh = D; prices = x }))))
+    insist (goodsFit g) 1 (insist (meshFits g D) 2 (insist (addsUp g D x) 3 (Ok (record { goods = g; mesh = D; prices = x }))))
 
 -- g levels that fall from D.
 abbrev pub levelsFit : ℕ → ℕ → List ℕ → Bool
@@ -51,4 +51,4 @@ levelsFit g D u = eqb (length u) g && (eqb (first u) D && falls u)
 -- Making a price point from levels: refused as from prices, with 3 for anything but g levels that fall from the mesh.
 abbrev pub pointAtLevels : ℕ → ℕ → List ℕ → Result Priced Told
 pointAtLevels g D u =
-  insist (goodsFit g) 1 (insist (meshFits g D) 2 (insist (levelsFit g D u) 3 (Ok (record { goods = g; mesh = D; prices = toPrices u }))))
+    insist (goodsFit g) 1 (insist (meshFits g D) 2 (insist (levelsFit g D u) 3 (Ok (record { goods = g; mesh = D; prices = toPrices u }))))

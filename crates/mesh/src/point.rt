@@ -5,6 +5,7 @@ ghost use Rattle.std.specs.shelf.Lists.{sum};
 use crate::grid::Grid;
 
 mod levels;
+mod listing;
 mod make;
 
 // No value of this type has prices that do not add up to its mesh. The entries past the goods never matter.

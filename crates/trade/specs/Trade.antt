@@ -82,8 +82,8 @@ goodsFrom j (suc n) = suc j ∷ goodsFrom (suc j) n
 -- The excesses of all goods add up to nought.
 abbrev pub Excesses-cancel : Type 0
 Excesses-cancel =
-  (g S : ℕ) (ts : List Trader) (x : List ℕ) → All (Fair g S) ts → length x ≡ g
-  → folded _+ℤ_ (pos 0) (map (excess S ts x) (goodsFrom 0 g)) ≡ pos 0
+    (g S : ℕ) (ts : List Trader) (x : List ℕ) → All (Fair g S) ts → length x ≡ g
+    → folded _+ℤ_ (pos 0) (map (excess S ts x) (goodsFrom 0 g)) ≡ pos 0
 
 -- No good without a price has an excess below 0.
 abbrev pub Free-goods-not-in-surplus : Type 0
@@ -92,7 +92,7 @@ Free-goods-not-in-surplus = (S : ℕ) (ts : List Trader) (x : List ℕ) (j : ℕ
 -- Where some good has a price, the label exists, and is what it should be.
 abbrev pub Label-exists : Type 0
 Label-exists =
-  (g S : ℕ) (ts : List Trader) (x : List ℕ) → All (Fair g S) ts → length x ≡ g → 0 < sum x → Labels g S ts x (marketLabel g S ts x)
+    (g S : ℕ) (ts : List Trader) (x : List ℕ) → All (Fair g S) ts → length x ≡ g → 0 < sum x → Labels g S ts x (marketLabel g S ts x)
 
 -- There is one label at most.
 abbrev pub Label-determined : Type 0

@@ -11,14 +11,14 @@ use super::Field;
 use mesh::refusal::Refusal;
 
 // One byte; 0 past the end.
-pub fn byte_at(bytes: &[u8], i: usize) -> u8
+pub(crate) fn byte_at(bytes: &[u8], i: usize) -> u8
     ensures { λ r. ⌜ r ≡ getD (now (bytes .entry)) i 0 ⌝ }
 {
     if i < bytes.len() { bytes[i] } else { 0 }
 }
 
 // A number of two bytes, the high one first.
-pub fn number_at(bytes: &[u8], i: usize) -> u16
+pub(crate) fn number_at(bytes: &[u8], i: usize) -> u16
     ensures { λ r. ⌜ r ≡ 256 * getD (now (bytes .entry)) i 0 + getD (now (bytes .entry)) (i + 1) 0 ⌝ }
 {
     if i >= bytes.len() {
@@ -80,6 +80,32 @@ impl Due {
             Due::Sum => 1 <= number_at(body, 0) && number_at(body, 0) <= 1000,
             Due::Trader(_, _) => true,
             Due::Nothing => true,
+        }
+    }
+}
+
+impl<'f> Field<'f> {
+    // The body: a part of the file.
+    pub fn body(&self) -> &'f [u8]
+        ensures { λ r. ⌜ now r ≡ fieldOf (now (self .entry)) .1 ⌝ }
+    {
+        match self {
+            Field::Goods(body, _) => body,
+            Field::Name(body, _) => body,
+            Field::Sum(body, _) => body,
+            Field::Trader(body, _) => body,
+        }
+    }
+
+    // The place of the tag byte.
+    pub fn place(&self) -> usize
+        ensures { λ r. ⌜ r ≡ fieldOf (now (self .entry)) .2 ⌝ }
+    {
+        match self {
+            Field::Goods(_, place) => *place,
+            Field::Name(_, place) => *place,
+            Field::Sum(_, place) => *place,
+            Field::Trader(_, place) => *place,
         }
     }
 }

@@ -49,7 +49,7 @@ impl Market {
     }
 
     // What all traders own of a good.
-    fn owned(&self, good: usize) -> u32
+    pub(super) fn owned(&self, good: usize) -> u32
         requires { ⌜ 1 ≤ good ⌝ ∗ ⌜ good ≤ now self .numbers .goods ⌝ }
         ensures value { λ r. ⌜ r ≡ ownedInAll (tradersOf (now (self .entry))) good ⌝ }
         ensures small { λ r. ⌜ r ≤ 1048560 ⌝ }

@@ -15,9 +15,9 @@ pub returns : need.returns
 returns c =
     let m = c .args .self .now in
     let d : c .demanded-demand .result ≡ demand (tradersOf m) (pricesOf (c .args .point .now)) (c .args .good)
-        = c .demanded-demand .ensures .value ∙ ap (λ x. demand (tradersOf m) x (c .args .good)) (c .prices .ensures) in
+    = c .demanded-demand .ensures .value ∙ ap (λ x. demand (tradersOf m) x (c .args .good)) (c .prices .ensures) in
     let s : c .supplied-supply .result ≡ supply (m .numbers .sum) (tradersOf m) (pricesOf (c .args .point .now)) (c .args .good)
-        = c .supplied-supply .ensures .value ∙ ap (λ p. m .numbers .sum * p * ownedInAll (tradersOf m) (c .args .good)) (c .price .ensures) in
+    = c .supplied-supply .ensures .value ∙ ap (λ p. m .numbers .sum * p * ownedInAll (tradersOf m) (c .args .good)) (c .price .ensures) in
     let low = c .demanded-demand .ensures .small in
     let high = c .supplied-supply .ensures .small in
     omega (arith, ints)

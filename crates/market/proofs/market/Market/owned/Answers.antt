@@ -9,5 +9,5 @@ loop-a-again c =
     let m = c .args .self .now in
     let small : c .from-sum .result < 65536 = search needs in
     let more = owned-more (m .numbers .goods) (c .loop-a .a) (m .numbers .endowments) (m .numbers .weights)
-      (omega (arith, m .rooms .0, m .«some_traders» .1)) (omega (arith, m .rooms .1, m .«some_traders» .1)) (c .args .good) (c .pre .0) (c .pre .1) in
+    (omega (arith, m .rooms .0, m .«some_traders» .1)) (omega (arith, m .rooms .1, m .«some_traders» .1)) (c .args .good) (c .pre .0) (c .pre .1) in
     (omega arith, omega arith)

@@ -14,7 +14,7 @@ returns c =
     let owned-small : c .from-3 .result ≤ 1048560 = omega (arith, c .owned .ensures .small) in
     record {
       value = ap (λ n. n * c .from-2 .result * c .from-3 .result) (c .from .ensures)
-        ∙ ap (λ n. m .numbers .sum * n * c .from-3 .result) (c .from-2 .ensures)
-        ∙ ap (λ n. m .numbers .sum * c .args .price * n) (c .from-3 .ensures ∙ c .owned .ensures .value);
+          ∙ ap (λ n. m .numbers .sum * n * c .from-3 .result) (c .from-2 .ensures)
+          ∙ ap (λ n. m .numbers .sum * c .args .price * n) (c .from-3 .ensures ∙ c .owned .ensures .value);
       small = mul-le-mul (mul-le-mul sum-small price-small) owned-small;
     }

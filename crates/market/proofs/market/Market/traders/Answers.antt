@@ -7,4 +7,4 @@ pub returns : need.returns
 returns c =
     let m = c .args .self .now in
     sym (rows-count (m .numbers .goods) (m .numbers .traders) (m .numbers .endowments) (m .numbers .weights)
-      (omega (arith, m .rooms .0, m .«some_traders» .1)) (omega (arith, m .rooms .1, m .«some_traders» .1)))
+    (omega (arith, m .rooms .0, m .«some_traders» .1)) (omega (arith, m .rooms .1, m .«some_traders» .1)))

@@ -29,7 +29,7 @@ pub loop-k-again : need.loop-k-again
 loop-k-again c =
     let step = dot-more (c .args .prices .now) (c .args .owned .now .of) (c .loop-k .k) (omega arith) (omega (arith, c .pre .1 .1)) in
     let product : c .from .result * c .from-in-loop-k .result ≡ getD (c .args .prices .now) (c .loop-k .k) 0 * getD (c .args .owned .now .of) (c .loop-k .k) 0
-        = ap (λ n. n * c .from-in-loop-k .result) (c .from .ensures) ∙ ap (λ n. getD (c .args .prices .now) (c .loop-k .k) 0 * n) (c .from-in-loop-k .ensures) in
+    = ap (λ n. n * c .from-in-loop-k .result) (c .from .ensures) ∙ ap (λ n. getD (c .args .prices .now) (c .loop-k .k) 0 * n) (c .from-in-loop-k .ensures) in
     (omega arith, turn c)
 
 pub returns : need.returns

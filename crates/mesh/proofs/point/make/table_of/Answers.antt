@@ -5,9 +5,10 @@ use Rattle.mesh.proofs.Fill.{filled-more, filled-all}
 use Rattle.mesh.proofs.point.make.table_of.Needs as need
 
 pub loop-i-again : need.loop-i-again
-loop-i-again c =
-    ( length-set (c .loop-i .table) (c .loop-i .i) _ ∙ c .loop-i .inv .0
-    , filled-more (c .loop-i .table) (c .args .prices .now) (c .loop-i .i) 0 (omega arith) (omega arith) (c .loop-i .inv .1) )
+loop-i-again c = (
+  length-set (c .loop-i .table) (c .loop-i .i) _ ∙ c .loop-i .inv .0,
+  filled-more (c .loop-i .table) (c .args .prices .now) (c .loop-i .i) 0 (omega arith) (omega arith) (c .loop-i .inv .1),
+)
 
 pub returns : need.returns
 returns c =
