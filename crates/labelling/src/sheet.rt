@@ -5,6 +5,8 @@ ghost use lib.ListN.{length, getD};
 
 mod make;
 
+pub use make::SheetLabelling;
+
 // A mesh of 1 to 64, and a byte for each price point: one more than the mesh. The entries past them never matter.
 #[derive(Clone, Copy)]
 pub struct Sheet {

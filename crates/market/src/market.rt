@@ -9,6 +9,8 @@ use crate::rows::Numbers;
 mod excess;
 mod make;
 
+pub use excess::MarketLabelling;
+
 #[derive(Clone, Copy)]
 pub struct Market {
     numbers: Numbers,

@@ -5,6 +5,8 @@ ghost use Rattle.mesh.specs.Range.{most};
 
 mod make;
 
+pub use make::finest;
+
 // 2 to 8 goods, and a mesh of 1 to the most for that many goods.
 #[derive(Clone, Copy)]
 pub struct Grid {
