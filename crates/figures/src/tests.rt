@@ -28,6 +28,9 @@ fn market_reads_back() -> Result<(), Fail> {
     check_eq(market.owned_in_all(3), Err(Refusal::NoSuchGood))?;
     check(file.name(1)? == b"a")?;
     check(file.name(2)? == b"b")?;
+    check_eq(file.name_place(1)?, 7)?;
+    check_eq(file.name_place(2)?, 11)?;
+    check_eq(file.name_place(3), Err(Refusal::NoSuchGood))?;
     check_eq(file.name(0).is_err(), true)?;
     check_eq(file.name(3).is_err(), true)
 }

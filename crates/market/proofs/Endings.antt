@@ -16,7 +16,7 @@ use Rattle.layout.specs.Layout.{fileOf, Valid, WellFormed}
 use Rattle.layout.specs.Faults.{bytesOf, Fault}
 use Rattle.layout.proofs.Meaning.{one-economy, one-fault, no-file-has-a-fault}
 use Rattle.market.specs.Rows.{tradersIn, allFit}
-use Rattle.market.specs.Reading.{economyOf, Reads}
+use Rattle.market.specs.Reading.{economyOf, Placed, Reads}
 use Rattle.market.specs.declared.rows.Numbers.{Numbers}
 use Rattle.market.specs.declared.market.Market.{Market}
 use Rattle.market.specs.Held.{Held}
@@ -62,7 +62,7 @@ module _ (file : List ℕ) (at : ℕ) (n : Numbers) (held : Held file at n) wher
 
 -- What was granted or refused is all there is to say.
 pub reads-all : (file : List ℕ) (r : Result Market Refusal)
-    → Cases r (λ m. Valid (economyOf file (m .numbers)) × (file ≡ fileOf (economyOf file (m .numbers)))) (λ e. Fault file (told e))
+    → Cases r (λ m. Valid (economyOf file (m .numbers)) × (file ≡ fileOf (economyOf file (m .numbers))) × Placed file (m .numbers)) (λ e. Fault file (told e))
     → Reads file r
 reads-all file (Ok m) granted = record {
   granted = granted;

@@ -12,7 +12,7 @@ use Rattle.mesh.specs.declared.refusal.Refusal.the-variants.{GoodUnowned}
 use Rattle.layout.specs.Layout.{fileOf, WellFormed, Valid}
 use Rattle.layout.specs.Faults.{OwnerFault}
 use Rattle.market.specs.Held.{Held}
-use Rattle.market.specs.Reading.{economyOf, Reads}
+use Rattle.market.specs.Reading.{economyOf, Placed, Reads}
 use Rattle.market.specs.Markets.{tradersOf, MarketNumbers, AllOwned, FirstUnowned}
 use Rattle.market.specs.declared.rows.Numbers.{Numbers}
 use Rattle.market.specs.declared.market.Market.{Market}
@@ -34,7 +34,7 @@ module _ (file : List ℕ) (at : ℕ) (n : Numbers) (held : Held file at n) (som
     formed = subst (λ e. WellFormed e × (file ≡ fileOf e)) (sym same-economy) (held-whole file at n held some all)
 
     pub whole-market : AllOwned m → Reads file (Ok m)
-    whole-market owned = reads-all file (Ok m) (record { formed = formed .0; owned = owned }, formed .1)
+    whole-market owned = reads-all file (Ok m) (record { formed = formed .0; owned = owned }, formed .1, subst (Placed file) (sym is) (held .placed))
 
     pub unowned-fault : (j : ℕ) → FirstUnowned m j → Reads file (Err (GoodUnowned j))
     unowned-fault j first =

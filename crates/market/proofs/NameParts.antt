@@ -16,8 +16,8 @@ use Rattle.mesh.specs.Refusals.{Told, insist}
 use Rattle.layout.specs.Layout.{Economy, goodsField, nameField, sumField, traderField, fileOf}
 use Rattle.layout.specs.Faults.{naming, bytesOf}
 use Rattle.market.specs.Rows.{cut, namesIn}
-use Rattle.market.specs.Reading.{economyOf}
-use Rattle.market.specs.Names.{nameOf, nameAt, nameFor, NameStands}
+use Rattle.market.specs.Reading.{economyOf, nameOf, nameAt}
+use Rattle.market.specs.Names.{nameFor, NameStands}
 use Rattle.market.specs.declared.rows.Span.{Span}
 use Rattle.market.specs.declared.market.Market.{Market}
 

@@ -41,6 +41,7 @@ held-start file = record {
   few-traders = lit≤ tt;
   no-goods = λ z. (refl, refl);
   no-sum = λ z. refl;
+  placed = λ j low high. absurd (omega arith);
 }
 
 module _ (file : List ℕ) (at : ℕ) (n : Numbers) (held : Held file at n) where

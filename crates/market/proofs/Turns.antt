@@ -2,18 +2,19 @@
 --   held-goods, held-name, held-sum, held-trader    what is held after each kind of field
 --   trader-off                                      weights that do not add up are the fault of the file
 -- What else a reader cites is passed on from the files below.
-use Prim.Native.Nat.{ℕ, _+_, _*_, _≤_, _<_}
+use Prim.Native.Nat.{ℕ, _+_, _-_, _*_, _≤_, _<_}
 use native.Mathlib.Omega.{arith}
 use mathlib.Core.Path.{_≡_, sym, ap, subst, _∙_}
 use mathlib.Core.Bool.{true, false}
+use mathlib.Core.Logic.{_≢_, ⊎-elim}
 use mathlib.Core.List.{List, [], _∷_, _++_, map}
 use lib.Dec.{eqb}
 use lib.ListN.{length, getD, set, take, drop}
 use Rattle.std.specs.Joined.{joined}
 use Rattle.std.specs.shelf.Lists.{sum}
 use Rattle.std.specs.declared.result.Result.the-variants.{Ok}
-use Rattle.std.proofs.shelf.Lists.{length-set, length-push, length-take-le, take-set, take-more-set, getD-set-same, drop-at, map-push}
-use Rattle.std.proofs.shelf.Tests.{and-parts, and-right, leb-true, eqb-true, ne-eqb}
+use Rattle.std.proofs.shelf.Lists.{length-set, length-push, length-take-le, take-set, take-more-set, take-all, take-append-le, getD-set-same, getD-set-other, drop-at, map-push}
+use Rattle.std.proofs.shelf.Tests.{and-parts, and-right, leb-true, eqb-true, ne-eqb, cases-lt}
 use Rattle.std.proofs.shelf.Elements.{all-push}
 use Rattle.mesh.specs.Range.{goodsFit}
 use Rattle.trade.specs.Trade.{Trader}
@@ -28,6 +29,7 @@ use Rattle.market.specs.declared.rows.Span.{Span}
 use Rattle.market.proofs.TraderRows.{rows-more, blank}
 use Rattle.market.specs.Adding.{dueIn, withGoods, withName, withSum, withTrader}
 use Rattle.market.specs.Held.{beginningOf, Held}
+use Rattle.market.specs.Reading.{economyOf, nameAt, spanOf, Placed}
 use Rattle.market.proofs.Stages.{is-empty, is-naming, is-trading, turn, goods-turn, name-turn, sum-turn, trader-turn}
 use Rattle.market.proofs.Grown.{one-byte, two-bytes}
 use Rattle.market.proofs.Fitting.{all-short}
@@ -44,6 +46,29 @@ rows-set : (g k : ℕ) (es ws : List Amounts) (e w : Amounts) → k < length es 
 rows-set g k es ws e w le lw =
     rows-more g k (set es k e) (set ws k w) blank blank (rw length-set le) (rw length-set lw)
     ∙ rw (take-set es k e, take-set ws k w, getD-set-same es k e blank le, getD-set-same ws k w blank lw)
+
+-- One name more is marked at its place, if that is where the names before it end.
+placed-more : (file : List ℕ) (n : Numbers) (s : Span) (body : List ℕ) → Placed file n → n .named < length (n .names)
+    → length (namesIn file (n .named) (n .names)) ≡ n .named
+    → namesIn file (n .named + 1) (set (n .names) (n .named) s) ≡ namesIn file (n .named) (n .names) ++ body ∷ []
+    → s .at ≡ length (bytesOf (naming (n .goods) (namesIn file (n .named) (n .names)))) + 3
+    → Placed file (withName n s)
+placed-more file n s body placed room many names here j low high =
+    ⊎-elim old new (cases-lt (j - 1) (n .named))
+  where
+    front : j - 1 ≤ n .named → take (j - 1) (namesIn file (n .named + 1) (set (n .names) (n .named) s)) ≡ take (j - 1) (namesIn file (n .named) (n .names))
+    front h = ap (take (j - 1)) names ∙ take-append-le (j - 1) (namesIn file (n .named) (n .names)) (body ∷ []) (omega (arith, many, h))
+    old : j - 1 < n .named → spanOf (withName n s) j .at ≡ nameAt (economyOf file (withName n s)) j
+    old h =
+      let apart : j - 1 ≢ n .named = λ e. omega (arith, e, h) in
+      ap (λ x. x .at) (getD-set-other (n .names) (n .named) (j - 1) s (record { at = 0; len = 0 }) apart) ∙ placed j low (omega (arith, h))
+      ∙ sym (ap (λ xs. length (bytesOf (naming (n .goods) xs)) + 3) (front (omega (arith, h))))
+    new : n .named ≤ j - 1 → spanOf (withName n s) j .at ≡ nameAt (economyOf file (withName n s)) j
+    new h =
+      let same : j - 1 ≡ n .named = omega (arith, h, high) in
+      ap (λ k. getD (set (n .names) (n .named) s) k (record { at = 0; len = 0 }) .at) same
+      ∙ ap (λ x. x .at) (getD-set-same (n .names) (n .named) s (record { at = 0; len = 0 }) room) ∙ here
+      ∙ sym (ap (λ xs. length (bytesOf (naming (n .goods) xs)) + 3) (front (omega (arith, same)) ∙ take-all (j - 1) (namesIn file (n .named) (n .names)) (omega (arith, many, same))))
 
 module _ (file : List ℕ) (at : ℕ) (n : Numbers) (held : Held file at n) (body : List ℕ) (place : ℕ) where
   pub held-goods : _≡_ {A = Answer} (Ok (1, body, place)) (fieldFor (dueIn n) (drop at file) at)
@@ -72,6 +97,7 @@ module _ (file : List ℕ) (at : ℕ) (n : Numbers) (held : Held file at n) (bod
         few-traders = held .few-traders;
         no-goods = λ z. nothing;
         no-sum = held .no-sum;
+        placed = λ j low high. absurd (omega (arith, nothing .0));
       }
 
   pub held-name : _≡_ {A = Answer} (Ok (2, body, place)) (fieldFor (dueIn n) (drop at file) at)
@@ -111,6 +137,9 @@ module _ (file : List ℕ) (at : ℕ) (n : Numbers) (held : Held file at n) (bod
         few-traders = held .few-traders;
         no-goods = λ z. absurd (omega (arith, some, z));
         no-sum = held .no-sum;
+        placed =
+            placed-more file n span body (held .placed) room (names-many file at n held) names
+            (ap (λ k. k + 3) (good .here ∙ sym (place-is file at n held) ∙ ap (λ b. length (bytesOf b)) (is-naming file n some none)));
       }
 
   pub held-sum : _≡_ {A = Answer} (Ok (3, body, place)) (fieldFor (dueIn n) (drop at file) at) → (low : getD body 1 0 < 256)
@@ -144,6 +173,7 @@ module _ (file : List ℕ) (at : ℕ) (n : Numbers) (held : Held file at n) (bod
         few-traders = held .few-traders;
         no-goods = λ z. absurd (omega (arith, some, z));
         no-sum = λ z. absurd (omega (arith, more, z));
+        placed = held .placed;
       }
 
   module _ (e w : Amounts) (rows : body ≡ joined two (take (n .goods) (e .of)) ++ joined two (take (n .goods) (w .of)))
@@ -194,6 +224,7 @@ module _ (file : List ℕ) (at : ℕ) (n : Numbers) (held : Held file at n) (bod
           few-traders = omega (arith, at-turn .3);
           no-goods = λ z. absurd (omega (arith, some, z));
           no-sum = λ z. absurd (omega (arith, more, z));
+          placed = held .placed;
         }
 
     pub trader-off : (sum (take (n .goods) (w .of)) ≡ n .sum → ⊥) → FieldFault file (25, place ∷ [])

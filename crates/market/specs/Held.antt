@@ -9,6 +9,7 @@ use lib.Dec.{eqb}
 use lib.ListN.{length, take}
 use Rattle.layout.specs.Faults.{Beginning, empty, naming, trading, bytesOf, Sound}
 use Rattle.market.specs.Rows.{tradersIn, namesIn}
+use Rattle.market.specs.Reading.{Placed}
 use Rattle.market.specs.declared.rows.Numbers.{Numbers}
 
 abbrev pub beginningOf : List ℕ → Numbers → Beginning
@@ -30,3 +31,5 @@ pub record Held (file : List ℕ) (at : ℕ) (n : Numbers) : Type 0 where
   -- nothing is said before its turn
   pub no-goods : n .goods ≡ 0 → (n .named ≡ 0) × (n .sum ≡ 0)
   pub no-sum : n .sum ≡ 0 → n .traders ≡ 0
+  -- each name is marked at its place
+  pub placed : Placed file n

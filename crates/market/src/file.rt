@@ -3,7 +3,7 @@ ghost use mathlib.Core.Path.{_≡_};
 ghost use denote.Ref.{now};
 ghost use Rattle.mesh.specs.Refusals.{answered};
 ghost use Rattle.market.specs.Reading.{Reads};
-ghost use Rattle.market.specs.Names.{nameFor, NameStands};
+ghost use Rattle.market.specs.Names.{nameFor, placeFor, NameStands};
 ghost use Rattle.std.specs.Vec.{made};
 use crate::market::Market;
 use crate::reader::read;
@@ -42,5 +42,16 @@ impl<'f> MarketFile<'f> {
         };
         let span = market.name_span(good)?;
         Ok(span.of(self.bytes))
+    }
+
+    // The place of that name in the file, counted from 0. Refused alike.
+    pub fn name_place(&self, good: usize) -> Result<usize, Refusal>
+        ensures { λ r. ⌜ answered (λ n. n) r ≡ placeFor (now (self .entry) .found) good ⌝ }
+    {
+        let Ok(market) = self.found else {
+            return Err(Refusal::NoSuchGood);
+        };
+        let span = market.name_span(good)?;
+        Ok(span.at)
     }
 }
