@@ -3,4 +3,4 @@ pub mod field;
 pub mod file;
 pub mod market;
 pub mod reader;
-pub mod rows;
+mod rows;
