@@ -28,14 +28,14 @@ module _ (p : PricePoint) where
       → (0 ≡ first (toLevels (drop n (pricesOf p)))) × (take (goodsOf p - n) (drop n arr) ≡ toLevels (drop n (pricesOf p)))
   levels-start arr n e = levels-end (pricesOf p) arr n (goodsOf p - n) (prices-size ∙ sym e) (omega arith)
 
-  -- One turn of it.
-  pub levels-go : (arr : List ℕ) (j s : ℕ) → 0 < j → j ≤ goodsOf p → length arr ≡ 8
+  -- One turn of it: t is the sum with one more price.
+  pub levels-go : (arr : List ℕ) (j s t : ℕ) → t ≡ s + getD (p .prices) (j - 1) 0 → 0 < j → j ≤ goodsOf p → length arr ≡ 8
       → s ≡ first (toLevels (drop j (pricesOf p))) → take (goodsOf p - j) (drop j arr) ≡ toLevels (drop j (pricesOf p))
-      → (s + getD (p .prices) (j - 1) 0 ≡ first (toLevels (drop (j - 1) (pricesOf p))))
-      × (take (goodsOf p - (j - 1)) (drop (j - 1) (set arr (j - 1) (s + getD (p .prices) (j - 1) 0))) ≡ toLevels (drop (j - 1) (pricesOf p)))
-  levels-go arr j s low high size e f =
+      → (t ≡ first (toLevels (drop (j - 1) (pricesOf p))))
+      × (take (goodsOf p - (j - 1)) (drop (j - 1) (set arr (j - 1) t)) ≡ toLevels (drop (j - 1) (pricesOf p)))
+  levels-go arr j s t is low high size e f =
       let few = p .grid .«goods_fit» .1 in
-      levels-turn (p .prices) arr (goodsOf p) j s low high (omega (arith, p .room)) (omega arith) e f
+      rw is (levels-turn (p .prices) arr (goodsOf p) j s low high (omega (arith, p .room)) (omega arith) e f)
 
   -- A sum of prices is at most the mesh.
   pub level-small : (i s : ℕ) → s ≡ first (toLevels (drop i (pricesOf p))) → s ≤ meshOf p

@@ -1,6 +1,6 @@
 // Levels: each is the sum of the prices from its good on.
 ghost use mathlib.Core.Path.{_≡_};
-ghost use Prim.Native.Nat.{ℕ, _≤_, _<_};
+ghost use Prim.Native.Nat.{ℕ, _+_, _≤_, _<_};
 ghost use lib.ListN.{length, take, drop, getD};
 ghost use Rattle.std.specs.shelf.Lists.{sum};
 ghost use Rattle.std.specs.Vec.{made};
@@ -61,10 +61,18 @@ impl PricePoint {
         let mut levels = [0u32; 8];
         let mut sum = 0u32;
         for j in (0..self.grid.goods()).rev() {
-            sum += self.prices[j];
+            sum = self.with_price(sum, j);
             levels[j] = sum;
         }
         levels
+    }
+
+    // A sum with the price at that place added.
+    fn with_price(&self, sum: u32, j: usize) -> u32
+        requires { ⌜ j < goodsOf (now self) ⌝ ∗ ⌜ sum + getD (now self .prices) j 0 ≤ meshOf (now self) ⌝ }
+        ensures { λ r. ⌜ r ≡ sum + getD (now (self .entry) .prices) j 0 ⌝ }
+    {
+        sum + self.prices[j]
     }
 
     // The point with these levels. Refuses goods and mesh out of range as `new` does, then anything but that many levels falling from the mesh.

@@ -12,14 +12,14 @@ pub loop-j-holds : need.loop-j-holds
 loop-j-holds c =
     let s = levels-start (c .args .self .now) _ (c .goods-j .result) (c .goods-j .ensures) in (refl, s .0, s .1)
 
-pub add-sum : need.add-sum
-add-sum c =
-    let turn = levels-go (c .args .self .now) (c .loop-j .levels) (c .loop-j .j) (c .loop-j .sum) (c .loop-j-test .taken) (omega arith) (c .loop-j .inv .0) (c .loop-j .inv .1) (c .loop-j .inv .2) in
-    omega (arith, level-small (c .args .self .now) (c .loop-j .j - 1) _ (turn .0), c .args .self .now .grid .«mesh_fits» .1)
+pub with-price-sum-requires : need.with-price-sum-requires
+with-price-sum-requires c κs =
+    let turn = levels-go (c .args .self .now) (c .loop-j .levels) (c .loop-j .j) (c .loop-j .sum) _ refl (c .loop-j-test .taken) (omega arith) (c .loop-j .inv .0) (c .loop-j .inv .1) (c .loop-j .inv .2) in
+    (omega arith, level-small (c .args .self .now) (c .loop-j .j - 1) _ (turn .0))
 
 pub loop-j-again : need.loop-j-again
 loop-j-again c =
-    let turn = levels-go (c .args .self .now) (c .loop-j .levels) (c .loop-j .j) (c .loop-j .sum) (c .loop-j-test .taken) (omega arith) (c .loop-j .inv .0) (c .loop-j .inv .1) (c .loop-j .inv .2) in
+    let turn = levels-go (c .args .self .now) (c .loop-j .levels) (c .loop-j .j) (c .loop-j .sum) (c .with-price-sum .result) (c .with-price-sum .ensures) (c .loop-j-test .taken) (omega arith) (c .loop-j .inv .0) (c .loop-j .inv .1) (c .loop-j .inv .2) in
     (length-set (c .loop-j .levels) (c .loop-j .j - 1) _ ∙ c .loop-j .inv .0, turn .0, turn .1)
 
 pub returns : need.returns
