@@ -10,7 +10,7 @@ use Rattle.layout.specs.Layout.{Economy, fileOf}
 -- Two traders, who own one unit each, of the first and of the second good, and weigh both goods alike: the weight sum is 2.
 abbrev pub swappers : List Trader
 swappers =
-  record { owns = 1 ∷ 0 ∷ []; weighs = 1 ∷ 1 ∷ [] } ∷ record { owns = 0 ∷ 1 ∷ []; weighs = 1 ∷ 1 ∷ [] } ∷ []
+    record { owns = 1 ∷ 0 ∷ []; weighs = 1 ∷ 1 ∷ [] } ∷ record { owns = 0 ∷ 1 ∷ []; weighs = 1 ∷ 1 ∷ [] } ∷ []
 
 -- Their market, with the goods named a and b.
 abbrev pub swap : Economy
@@ -30,9 +30,9 @@ pub record Worked-examples : Type 0 where
   pub label-priced : marketLabel 2 2 (record { owns = 0 ∷ 1 ∷ []; weighs = 0 ∷ 2 ∷ [] } ∷ []) (0 ∷ 4 ∷ []) ≡ 2
   -- the market's file has 39 bytes
   pub file : fileOf swap
-    ≡ 1 ∷ 0 ∷ 1 ∷ 2
-    ∷ 2 ∷ 0 ∷ 1 ∷ 97
-    ∷ 2 ∷ 0 ∷ 1 ∷ 98
-    ∷ 3 ∷ 0 ∷ 2 ∷ 0 ∷ 2
-    ∷ 4 ∷ 0 ∷ 8 ∷ 0 ∷ 1 ∷ 0 ∷ 0 ∷ 0 ∷ 1 ∷ 0 ∷ 1
-    ∷ 4 ∷ 0 ∷ 8 ∷ 0 ∷ 0 ∷ 0 ∷ 1 ∷ 0 ∷ 1 ∷ 0 ∷ 1 ∷ []
+      ≡ 1 ∷ 0 ∷ 1 ∷ 2
+      ∷ 2 ∷ 0 ∷ 1 ∷ 97
+      ∷ 2 ∷ 0 ∷ 1 ∷ 98
+      ∷ 3 ∷ 0 ∷ 2 ∷ 0 ∷ 2
+      ∷ 4 ∷ 0 ∷ 8 ∷ 0 ∷ 1 ∷ 0 ∷ 0 ∷ 0 ∷ 1 ∷ 0 ∷ 1
+      ∷ 4 ∷ 0 ∷ 8 ∷ 0 ∷ 0 ∷ 0 ∷ 1 ∷ 0 ∷ 1 ∷ 0 ∷ 1 ∷ []

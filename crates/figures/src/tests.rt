@@ -12,7 +12,45 @@ use std::test::*;
 
 // Two goods, two traders: 39 bytes.
 const SWAP: [u8; 39] = [
-    1, 0, 1, 2, 2, 0, 1, 97, 2, 0, 1, 98, 3, 0, 2, 0, 2, 4, 0, 8, 0, 1, 0, 0, 0, 1, 0, 1, 4, 0, 8, 0, 0, 0, 1, 0, 1, 0, 1,
+    1,
+    0,
+    1,
+    2,
+    2,
+    0,
+    1,
+    97,
+    2,
+    0,
+    1,
+    98,
+    3,
+    0,
+    2,
+    0,
+    2,
+    4,
+    0,
+    8,
+    0,
+    1,
+    0,
+    0,
+    0,
+    1,
+    0,
+    1,
+    4,
+    0,
+    8,
+    0,
+    0,
+    0,
+    1,
+    0,
+    1,
+    0,
+    1,
 ];
 
 #[test]
@@ -52,13 +90,24 @@ fn market_labels_points() -> Result<(), Fail> {
 
 #[test]
 fn price_points_at_their_limits() -> Result<(), Fail> {
-    check_eq(PricePoint::new(8, 128, &[16, 16, 16, 16, 16, 16, 16, 16])?.mesh(), 128)?;
-    check(PricePoint::new(8, 129, &[17, 16, 16, 16, 16, 16, 16, 16]).err() == Some(Refusal::MeshOutOfRange))?;
-    check_eq(PricePoint::new(4, 16_384, &[16_384, 0, 0, 0])?.price(1), 16_384)?;
+    check_eq(
+        PricePoint::new(8, 128, &[16, 16, 16, 16, 16, 16, 16, 16])?.mesh(),
+        128,
+    )?;
+    check(
+        PricePoint::new(8, 129, &[17, 16, 16, 16, 16, 16, 16, 16]).err()
+            == Some(Refusal::MeshOutOfRange),
+    )?;
+    check_eq(
+        PricePoint::new(4, 16_384, &[16_384, 0, 0, 0])?.price(1),
+        16_384,
+    )?;
     check(PricePoint::new(4, 16_385, &[16_385, 0, 0, 0]).err() == Some(Refusal::MeshOutOfRange))?;
     check(PricePoint::new(2, 0, &[0, 0]).err() == Some(Refusal::MeshOutOfRange))?;
     check(PricePoint::new(1, 4, &[4]).err() == Some(Refusal::GoodsOutOfRange))?;
-    check(PricePoint::new(9, 4, &[4, 0, 0, 0, 0, 0, 0, 0, 0]).err() == Some(Refusal::GoodsOutOfRange))?;
+    check(
+        PricePoint::new(9, 4, &[4, 0, 0, 0, 0, 0, 0, 0, 0]).err() == Some(Refusal::GoodsOutOfRange),
+    )?;
     check(PricePoint::new(2, 4, &[4, 1]).err() == Some(Refusal::NotAPricePoint))?;
     check(PricePoint::new(2, 4, &[4]).err() == Some(Refusal::NotAPricePoint))?;
     check(PricePoint::new(2, 4, &[4_294_967_295, 5]).err() == Some(Refusal::NotAPricePoint))
@@ -81,7 +130,10 @@ fn sheets() -> Result<(), Fail> {
     check(Sheet::new(65, &[1; 66]).err() == Some(Refusal::SheetMeshOutOfRange))?;
     check(Sheet::new(4, &[1, 1, 1, 2]).err() == Some(Refusal::SheetLength))?;
     check(Sheet::new(4, &[1, 1, 1, 2, 2, 2]).err() == Some(Refusal::SheetLength))?;
-    check_eq(Sheet::new(64, &[7; 65])?.label(&PricePoint::new(2, 64, &[0, 64])?), 7)?;
+    check_eq(
+        Sheet::new(64, &[7; 65])?.label(&PricePoint::new(2, 64, &[0, 64])?),
+        7,
+    )?;
     let sheet = Sheet::new(4, &[9, 1, 1, 2, 255])?;
     check_eq(sheet.label(&PricePoint::new(2, 4, &[4, 0])?), 9)?;
     check_eq(sheet.label(&PricePoint::new(2, 4, &[1, 3])?), 2)?;

@@ -58,17 +58,19 @@ placed-more file n s body placed room many names here j low high =
   where
     front : j - 1 ≤ n .named → take (j - 1) (namesIn file (n .named + 1) (set (n .names) (n .named) s)) ≡ take (j - 1) (namesIn file (n .named) (n .names))
     front h = ap (take (j - 1)) names ∙ take-append-le (j - 1) (namesIn file (n .named) (n .names)) (body ∷ []) (omega (arith, many, h))
+
     old : j - 1 < n .named → spanOf (withName n s) j .at ≡ nameAt (economyOf file (withName n s)) j
     old h =
-      let apart : j - 1 ≢ n .named = λ e. omega (arith, e, h) in
-      ap (λ x. x .at) (getD-set-other (n .names) (n .named) (j - 1) s (record { at = 0; len = 0 }) apart) ∙ placed j low (omega (arith, h))
-      ∙ sym (ap (λ xs. length (bytesOf (naming (n .goods) xs)) + 3) (front (omega (arith, h))))
+        let apart : j - 1 ≢ n .named = λ e. omega (arith, e, h) in
+        ap (λ x. x .at) (getD-set-other (n .names) (n .named) (j - 1) s (record { at = 0; len = 0 }) apart) ∙ placed j low (omega (arith, h))
+        ∙ sym (ap (λ xs. length (bytesOf (naming (n .goods) xs)) + 3) (front (omega (arith, h))))
+
     new : n .named ≤ j - 1 → spanOf (withName n s) j .at ≡ nameAt (economyOf file (withName n s)) j
     new h =
-      let same : j - 1 ≡ n .named = omega (arith, h, high) in
-      ap (λ k. getD (set (n .names) (n .named) s) k (record { at = 0; len = 0 }) .at) same
-      ∙ ap (λ x. x .at) (getD-set-same (n .names) (n .named) s (record { at = 0; len = 0 }) room) ∙ here
-      ∙ sym (ap (λ xs. length (bytesOf (naming (n .goods) xs)) + 3) (front (omega (arith, same)) ∙ take-all (j - 1) (namesIn file (n .named) (n .names)) (omega (arith, many, same))))
+        let same : j - 1 ≡ n .named = omega (arith, h, high) in
+        ap (λ k. getD (set (n .names) (n .named) s) k (record { at = 0; len = 0 }) .at) same
+        ∙ ap (λ x. x .at) (getD-set-same (n .names) (n .named) s (record { at = 0; len = 0 }) room) ∙ here
+        ∙ sym (ap (λ xs. length (bytesOf (naming (n .goods) xs)) + 3) (front (omega (arith, same)) ∙ take-all (j - 1) (namesIn file (n .named) (n .names)) (omega (arith, many, same))))
 
 module _ (file : List ℕ) (at : ℕ) (n : Numbers) (held : Held file at n) (body : List ℕ) (place : ℕ) where
   pub held-goods : _≡_ {A = Answer} (Ok (1, body, place)) (fieldFor (dueIn n) (drop at file) at)
