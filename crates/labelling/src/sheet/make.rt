@@ -1,8 +1,10 @@
 // Making a sheet, and its labels.
 ghost use mathlib.Core.Path.{_≡_};
 ghost use Prim.Native.Nat.{ℕ, _≤_};
-ghost use lib.ListN.{length, getD, take};
+ghost use lib.ListN.{length, getD, take, drop};
+ghost use Rattle.std.specs.shelf.Lists.{sum};
 ghost use Rattle.labelling.specs.Sheets.{sheetOf, sheetFor, ruleOf};
+ghost use Rattle.mesh.specs.Points.{pricesOf};
 ghost use Rattle.mesh.specs.Refusals.{answered};
 use super::Sheet;
 use crate::Labelling;
@@ -19,6 +21,14 @@ fn table_of(bytes: &[u8]) -> [u8; 65]
         table[i] = bytes[i];
     }
     table
+}
+
+// The second level of a point: the sum of its prices from good 2 on.
+fn second_level(point: &PricePoint) -> u32
+    ensures { λ r. ⌜ r ≡ sum (drop 1 (pricesOf (now (point .entry)))) ⌝ }
+{
+    let levels = point.levels();
+    levels[1]
 }
 
 impl Sheet {
@@ -44,7 +54,6 @@ pub impl Labelling for Sheet as SheetLabelling {
         if point.goods() != 2 || point.mesh() != self.mesh {
             return 0;
         }
-        let levels = point.levels();
-        self.labels[levels[1] as usize]
+        self.labels[second_level(point) as usize]
     }
 }
