@@ -18,9 +18,6 @@ abbrev Answer : Type 0
 Answer = Result (ℕ × List ℕ × ℕ) Told
 
 module _ (d : Due) (bytes : List ℕ) (place : ℕ) where
-  pub head-cut : length bytes < 3 → _≡_ {A = Answer} (Err (21, place ∷ [])) (fieldFor d bytes place)
-  head-cut short = rw (lt-leb 3 (length bytes) short)
-
   pub body-cut : 3 ≤ length bytes → tagDue d (tagOf bytes) ≡ true → lengthFits d (lengthOf bytes) ≡ true → length bytes < 3 + lengthOf bytes
       → _≡_ {A = Answer} (Err (21, place ∷ [])) (fieldFor d bytes place)
   body-cut head tag size short = rw (le-leb 3 (length bytes) head, tag, size, lt-leb (3 + lengthOf bytes) (length bytes) short)
@@ -36,10 +33,6 @@ module _ (d : Due) (bytes : List ℕ) (place : ℕ) where
 -- The body, as the code takes it from what follows the head.
 pub body-is : (bytes : List ℕ) (n : ℕ) → take (n - 0) (take (length bytes - 3) (drop 3 bytes)) ≡ take n (drop 3 bytes)
 body-is bytes n = let all : n - 0 ≡ n = omega arith in rw (all, take-rest bytes 3)
-
--- The whole of what follows a place.
-pub rest-is : (file : List ℕ) (at : ℕ) → take (length file - at) (drop at file) ≡ drop at file
-rest-is file at = take-rest file at
 
 -- What follows the head is that much shorter.
 pub length-rest : (bytes : List ℕ) → length (take (length bytes - 3) (drop 3 bytes)) ≡ length bytes - 3

@@ -1,12 +1,15 @@
 -- A file read to its end: the market that it says, or a good that nobody owns.
 use Prim.Native.Nat.{ℕ, _≤_, _<_}
 use mathlib.Core.Path.{_≡_, refl, sym, _∙_, ap, subst}
+use mathlib.Core.Bool.{true, _&&_}
 use mathlib.Core.List.{List, [], _∷_}
 use mathlib.Core.Logic.{inl, inr}
 use native.Mathlib.Omega.{arith}
+use lib.Dec.{ltb, eqb}
 use lib.ListN.{length}
 use Rattle.std.specs.declared.result.Result.{Result}
 use Rattle.std.specs.declared.result.Result.the-variants.{Ok, Err}
+use Rattle.std.proofs.shelf.Tests.{and-parts, ltb-true, eqb-true}
 use Rattle.mesh.specs.declared.refusal.Refusal.{Refusal}
 use Rattle.mesh.specs.declared.refusal.Refusal.the-variants.{GoodUnowned}
 use Rattle.layout.specs.Layout.{fileOf, WellFormed, Valid}
@@ -17,6 +20,10 @@ use Rattle.market.specs.Markets.{tradersOf, MarketNumbers, AllOwned, FirstUnow
 use Rattle.market.specs.declared.rows.Numbers.{Numbers}
 use Rattle.market.specs.declared.market.Market.{Market}
 use Rattle.market.proofs.Endings.{held-whole, held-named, held-market, reads-all}
+
+-- What the test of the end tells.
+pub end-tells : (t a l : ℕ) → true ≡ (ltb 0 t && eqb a l) → (0 < t) × (a ≡ l)
+end-tells t a l e = let both = and-parts _ _ (sym e) in (ltb-true 0 t (both .0), eqb-true a l (both .1))
 
 module _ (file : List ℕ) (at : ℕ) (n : Numbers) (held : Held file at n) (some : 0 < n .traders) where
   -- What a market asks of its numbers.

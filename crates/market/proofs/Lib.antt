@@ -1,6 +1,7 @@
 pub mod Worth
 pub mod TraderRows
 pub mod MarketLabel
+pub mod Parts
 pub mod FieldChecks
 pub mod Words
 pub mod NameParts

@@ -1,16 +1,15 @@
 -- The name of a good is a part of the file, at its place.
-use Prim.Native.Nat.{ℕ, zero, suc, _+_, _-_, _≤_, _<_, min}
+use Prim.Native.Nat.{ℕ, _+_, _-_, _<_}
 use mathlib.Core.Path.{_≡_, refl, sym, _∙_, ap}
 use mathlib.Core.Bool.{Bool, true, false}
 use mathlib.Core.List.{List, [], _∷_, _++_}
-use mathlib.Core.Logic.{⊎-elim}
 use native.Mathlib.Omega.{arith}
 use lib.ListN.{length, getD, take, drop}
 use Rattle.std.specs.declared.result.Result.{Result}
-use Rattle.std.specs.declared.result.Result.the-variants.{Ok, Err}
+use Rattle.std.specs.declared.result.Result.the-variants.{Ok}
 use Rattle.std.specs.Joined.{joined}
-use Rattle.std.proofs.shelf.Lists.{take-rest, take-all, drop-all, drop-at, drop-drop, take-at, length-append, append-assoc, getD-map, getD-take, length-take, take-append-drop, drop-more, length-map, length-take-le}
-use Rattle.std.proofs.shelf.Tests.{cases-lt, and-parts, leb-true}
+use Rattle.std.proofs.shelf.Lists.{drop-at, drop-drop, take-at, append-assoc, getD-map, getD-take, length-take, take-append-drop, drop-more, length-map, length-take-le}
+use Rattle.std.proofs.shelf.Tests.{and-parts, leb-true}
 use Rattle.mesh.specs.Range.{between}
 use Rattle.mesh.specs.Refusals.{Told, insist}
 use Rattle.layout.specs.Layout.{Economy, goodsField, nameField, sumField, traderField, fileOf}
@@ -20,28 +19,6 @@ use Rattle.market.specs.Reading.{economyOf, nameOf, nameAt}
 use Rattle.market.specs.Names.{nameFor, NameStands}
 use Rattle.market.specs.declared.rows.Span.{Span}
 use Rattle.market.specs.declared.market.Market.{Market}
-
-front : (xs : List ℕ) (n : ℕ) → take (min n (length xs)) xs ≡ take n xs
-front xs n =
-    ⊎-elim
-    (λ less. let e : min n (length xs) ≡ n = omega (arith, less) in ap (λ k. take k xs) e)
-    (λ more. let e : min n (length xs) ≡ length xs = omega (arith, more) in ap (λ k. take k xs) e ∙ take-all (length xs) xs (omega arith) ∙ sym (take-all n xs more))
-    (cases-lt n (length xs))
-
-back : (xs : List ℕ) (n : ℕ) → drop (min n (length xs)) xs ≡ drop n xs
-back xs n =
-    ⊎-elim
-    (λ less. let e : min n (length xs) ≡ n = omega (arith, less) in ap (λ k. drop k xs) e)
-    (λ more. let e : min n (length xs) ≡ length xs = omega (arith, more) in ap (λ k. drop k xs) e ∙ drop-all (length xs) xs (omega arith) ∙ sym (drop-all n xs more))
-    (cases-lt n (length xs))
-
--- The part that the code takes, with both bounds held within the file.
-pub part-cut : (file : List ℕ) (at len m k : ℕ) → m ≡ min at (length file) → k ≡ min len (length (take (length file - m) (drop m file)))
-    → take (k - 0) (take (length file - m) (drop m file)) ≡ take len (drop at file)
-part-cut file at len m k e f =
-    let rest : take (length file - m) (drop m file) ≡ drop at file = take-rest file m ∙ ap (λ n. drop n file) e ∙ back file at in
-    let all : k - 0 ≡ min len (length (drop at file)) = omega (arith, f, ap length rest) in
-    ap (λ n. take n (take (length file - m) (drop m file))) all ∙ ap (take (min len (length (drop at file)))) rest ∙ front (drop at file) len
 
 -- The span of a good marks its name.
 pub name-is : (file : List ℕ) (m : Market) (j : ℕ) (s d : Span)

@@ -3,6 +3,7 @@
 mod read;
 
 pub(crate) use read::byte_at;
+pub(crate) use read::bytes_from;
 pub use read::next_field;
 pub(crate) use read::number_at;
 

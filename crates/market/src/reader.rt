@@ -30,7 +30,7 @@ fn read_one(file: &[u8], at: usize, numbers: &mut Numbers) -> Result<usize, Refu
             Ok(end)
         }
         Field::Name(body, place) => {
-            numbers.add_name(place + 3, body.len());
+            numbers.add_name(place, body);
             Ok(end)
         }
         Field::Sum(body, _) => {
@@ -41,7 +41,7 @@ fn read_one(file: &[u8], at: usize, numbers: &mut Numbers) -> Result<usize, Refu
             let goods = numbers.goods;
             let owns = amounts(&body[0..2 * goods], goods);
             let weighs = amounts(&body[2 * goods..], goods);
-            if weighs.total(goods) != numbers.sum {
+            if !weighs.adds_up_to(goods, numbers.sum) {
                 return Err(Refusal::WeightsOffSum(place));
             }
             numbers.add_trader(owns, weighs);
@@ -50,13 +50,20 @@ fn read_one(file: &[u8], at: usize, numbers: &mut Numbers) -> Result<usize, Refu
     }
 }
 
+// The end of a whole file: some trader was read, and no byte is left.
+fn ended(file: &[u8], at: usize, numbers: &Numbers) -> bool
+    ensures { λ r. ⌜ r ≡ (ltb 0 (now (numbers .entry) .traders) && eqb at (length (now (file .entry)))) ⌝ }
+{
+    numbers.traders > 0 && at == file.len()
+}
+
 // Reads a whole file: the market that it says, or the refusal of its first fault.
 pub fn read(file: &[u8]) -> Result<Market, Refusal>
     ensures { λ r. ⌜ Reads (now (file .entry)) r ⌝ }
 {
     let mut numbers = Numbers::unsaid();
     let mut at = 0;
-    while at < file.len() || numbers.traders == 0 {
+    while !ended(file, at, &numbers) {
         at = read_one(file, at, &mut numbers)?;
     }
     let market = Market::with(numbers);

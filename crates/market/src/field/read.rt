@@ -27,6 +27,13 @@ pub(crate) fn number_at(bytes: &[u8], i: usize) -> u16
     u16::from(bytes[i]) * 256 + u16::from(byte_at(bytes, i + 1))
 }
 
+// The bytes from a place on; none past the end.
+pub(crate) fn bytes_from<'f>(bytes: &'f [u8], at: usize) -> &'f [u8]
+    ensures { λ r. ⌜ now r ≡ drop at (now (bytes .entry)) ⌝ }
+{
+    &bytes[at.min(bytes.len())..]
+}
+
 // A printing character of ASCII, or a blank.
 fn is_printing(b: u8) -> bool
     ensures { λ r. ⌜ r ≡ printing b ⌝ }
@@ -145,8 +152,5 @@ fn field_in<'f>(bytes: &'f [u8], at: usize, due: Due) -> Result<Field<'f>, Refus
 pub fn next_field<'f>(file: &'f [u8], at: usize, due: Due) -> Result<Field<'f>, Refusal>
     ensures { λ r. ⌜ answered fieldOf r ≡ fieldFor (dueOf due) (drop at (now (file .entry))) at ⌝ }
 {
-    if at > file.len() {
-        return Err(Refusal::Truncated(at));
-    }
-    field_in(&file[at..], at, due)
+    field_in(bytes_from(file, at), at, due)
 }

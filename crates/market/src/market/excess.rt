@@ -1,6 +1,7 @@
 // What is owned and demanded of a good, and the excess.
 ghost use mathlib.Core.Path.{_≡_};
 ghost use Prim.Native.Nat.{ℕ, _+_, _*_, _≤_, _<_};
+ghost use lib.IntN.{pos, _-ℤ_};
 ghost use lib.ListN.{length};
 ghost use Rattle.trade.specs.Trade.{dot, demand, ownedInAll, excess, clears};
 ghost use Rattle.std.specs.shelf.Lists.{sum};
@@ -26,6 +27,23 @@ fn worth(prices: &[u32], owned: &Amounts) -> u64
     income
 }
 
+// A weight sum times a price times an amount.
+fn product(weight_sum: u32, price: u32, amount: u32) -> u64
+    requires { ⌜ «weight_sum» ≤ 1000 ⌝ ∗ ⌜ price ≤ 16384 ⌝ ∗ ⌜ amount ≤ 1048560 ⌝ }
+    ensures value { λ r. ⌜ r ≡ «weight_sum» * price * amount ⌝ }
+    ensures small { λ r. ⌜ r ≤ 17179607040000 ⌝ }
+{
+    u64::from(weight_sum) * u64::from(price) * u64::from(amount)
+}
+
+// How far a demand is above a supply.
+fn difference(demand: u64, supply: u64) -> i64
+    requires { ⌜ demand ≤ 1125865547366400 ⌝ ∗ ⌜ supply ≤ 17179607040000 ⌝ }
+    ensures { λ r. ⌜ r ≡ pos demand -ℤ pos supply ⌝ }
+{
+    demand as i64 - supply as i64
+}
+
 impl Market {
     // How many goods are traded.
     pub fn goods(&self) -> usize
@@ -45,6 +63,13 @@ impl Market {
     pub fn traders(&self) -> usize
         ensures { λ r. ⌜ r ≡ length (tradersOf (now (self .entry))) ⌝ }
     {
+        self.rows()
+    }
+
+    // How many rows of the tables are filled.
+    fn rows(&self) -> usize
+        ensures { λ r. ⌜ r ≡ now (self .entry) .numbers .traders ⌝ }
+    {
         self.numbers.traders
     }
 
@@ -55,8 +80,8 @@ impl Market {
         ensures small { λ r. ⌜ r ≤ 1048560 ⌝ }
     {
         let mut sum = 0u32;
-        for a in 0..self.numbers.traders {
-            sum += u32::from(self.numbers.endowments[a].of[good - 1]);
+        for row in 0..self.rows() {
+            sum += u32::from(self.numbers.endowments[row].of[good - 1]);
         }
         sum
     }
@@ -69,7 +94,7 @@ impl Market {
         ensures small { λ r. ⌜ r ≤ 1125865547366400 ⌝ }
     {
         let mut sum = 0u64;
-        for a in 0..self.numbers.traders {
+        for a in 0..self.rows() {
             let income = worth(prices, &self.numbers.endowments[a]);
             sum += u64::from(self.numbers.weights[a].of[good - 1]) * income;
         }
@@ -82,7 +107,7 @@ impl Market {
         ensures value { λ r. ⌜ r ≡ now (self .entry) .numbers .sum * price * ownedInAll (tradersOf (now (self .entry))) good ⌝ }
         ensures small { λ r. ⌜ r ≤ 17179607040000 ⌝ }
     {
-        u64::from(self.numbers.sum) * u64::from(price) * u64::from(self.owned(good))
+        product(self.numbers.sum, price, self.owned(good))
     }
 
     // The excess of a good of the market at a point of as many goods.
@@ -92,7 +117,7 @@ impl Market {
     {
         let demand = self.demanded(point.prices(), good);
         let supply = self.supplied(point.price(good), good);
-        demand as i64 - supply as i64
+        difference(demand, supply)
     }
 
     // The excess of one good at a point. Refuses a good that the market does not have, then a point with another number of goods.

@@ -3,6 +3,7 @@ ghost use mathlib.Core.Path.{_≡_};
 ghost use mathlib.Core.Bool.{true};
 ghost use mathlib.Core.List.{_++_};
 ghost use Prim.Native.Nat.{_+_, _*_, _≤_, _<_};
+ghost use lib.Dec.{eqb};
 ghost use lib.ListN.{length, getD, take};
 ghost use Rattle.std.specs.Joined.{joined};
 ghost use Rattle.std.specs.shelf.Lists.{sum};
@@ -15,7 +16,16 @@ use super::Numbers;
 use super::Span;
 use crate::field::Due;
 use crate::field::byte_at;
+use crate::field::bytes_from;
 use crate::field::number_at;
+
+// The number at one place among numbers of two bytes each.
+fn amount_at(body: &[u8], place: usize) -> u16
+    requires { ⌜ place < 8 ⌝ }
+    ensures { λ r. ⌜ r ≡ 256 * getD (now (body .entry)) (2 * place) 0 + getD (now (body .entry)) (2 * place + 1) 0 ⌝ }
+{
+    number_at(body, 2 * place)
+}
 
 // So many numbers of two bytes each.
 pub(crate) fn amounts(body: &[u8], goods: usize) -> Amounts
@@ -23,10 +33,17 @@ pub(crate) fn amounts(body: &[u8], goods: usize) -> Amounts
     ensures { λ r. ⌜ length (r .of) ≡ 8 ⌝ ∗ ⌜ joined two (take goods (r .of)) ≡ now (body .entry) ⌝ ∗ ⌜ short (take goods (r .of)) ≡ true ⌝ }
 {
     let mut of = [0u16; 8];
-    for k in 0..goods {
-        of[k] = number_at(body, 2 * k);
+    for good in 0..goods {
+        of[good] = amount_at(body, good);
     }
     Amounts { of }
+}
+
+// The first bytes, so many of them or all.
+fn first_bytes<'f>(bytes: &'f [u8], len: usize) -> &'f [u8]
+    ensures { λ r. ⌜ now r ≡ take len (now (bytes .entry)) ⌝ }
+{
+    &bytes[0..len.min(bytes.len())]
 }
 
 impl Span {
@@ -34,8 +51,7 @@ impl Span {
     pub(crate) fn of<'f>(&self, file: &'f [u8]) -> &'f [u8]
         ensures { λ r. ⌜ now r ≡ cut (now (file .entry)) (now (self .entry)) ⌝ }
     {
-        let rest = &file[self.at.min(file.len())..];
-        &rest[0..self.len.min(rest.len())]
+        first_bytes(bytes_from(file, self.at), self.len)
     }
 }
 
@@ -50,6 +66,14 @@ impl Amounts {
             total += u32::from(self.of[k]);
         }
         total
+    }
+
+    // The numbers of the first goods add up to that.
+    pub(crate) fn adds_up_to(&self, goods: usize, whole: u32) -> bool
+        requires { ⌜ goods ≤ 8 ⌝ ∗ ⌜ length (now self .of) ≡ 8 ⌝ }
+        ensures { λ r. ⌜ r ≡ eqb (sum (take goods (now (self .entry) .of))) whole ⌝ }
+    {
+        self.total(goods) == whole
     }
 }
 
@@ -93,12 +117,16 @@ impl Numbers {
         self.goods = byte_at(body, 0) as usize;
     }
 
-    pub(crate) fn add_name(&mut self, at: usize, len: usize)
-        requires { ⌜ now self .named < 8 ⌝ }
-        ensures { λ _. ⌜ now (self .exit) ≡ withName (now (self .entry)) (record { at = at; len = len }) ⌝ }
+    // The name stands after the three bytes of its field's head.
+    pub(crate) fn add_name(&mut self, place: usize, body: &[u8])
+        requires { ⌜ now self .named < 8 ⌝ ∗ ⌜ place + 3 < 18446744073709551616 ⌝ }
+        ensures { λ _. ⌜ now (self .exit) ≡ withName (now (self .entry)) (record { at = place + 3; len = length (now (body .entry)) }) ⌝ }
     {
         let good = self.named;
-        self.names[good] = Span { at, len };
+        self.names[good] = Span {
+            at: place + 3,
+            len: body.len(),
+        };
         self.named = good + 1;
     }
 

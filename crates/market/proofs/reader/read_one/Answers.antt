@@ -3,7 +3,9 @@ use mathlib.Core.Path.{_≡_, refl, sym, _∙_, ap}
 use native.Mathlib.Omega.{arith}
 use lib.ListN.{length, drop, getD}
 use denote.Ref.{now}
+use borrow.Author.Needs.{needs}
 use Rattle.std.proofs.shelf.Results.{err-from-errBy}
+use Rattle.std.proofs.shelf.Tests.{eqb-true, eqb-false}
 use Rattle.layout.specs.Faults.{lengthOf}
 use Rattle.market.specs.Adding.{dueIn}
 use Rattle.market.specs.Fields.{dueOf, fieldOf}
@@ -28,6 +30,9 @@ add-end-2 c =
     let inside = field-within file (c .args .at) (c .args .numbers .now) (c .pre .held) (f .1) (f .2) (f .0) told in
     omega (arith, inside .1, ap length (c .body .ensures))
 
+pub add-name-requires : need.add-name-requires
+add-name-requires c κs = (search needs, search needs)
+
 pub amounts-weighs-requires : need.amounts-weighs-requires
 amounts-weighs-requires c κs =
     let file = c .args .file .now in
@@ -37,8 +42,8 @@ amounts-weighs-requires c κs =
     let few = goods-few file (c .args .at) n (c .pre .held) in
     (few, second-half body (n .goods) (trader-room file (c .args .at) n (c .pre .held) body (c .in-Trader .place) told .1))
 
-pub returns-then-total-numbers : need.returns-then-total-numbers
-returns-then-total-numbers c =
+pub returns-then-not-adds-up-to : need.returns-then-not-adds-up-to
+returns-then-not-adds-up-to c =
     let file = c .args .file .now in
     let n = c .args .numbers .now in
     let body = now (c .in-Trader .body) in
@@ -48,7 +53,7 @@ returns-then-total-numbers c =
     let weighs = c .amounts-weighs .ensures in
     let rows = halves body _ _ (2 * n .goods) (owns .1 .0) (weighs .1 .0) in
     trader-off file (c .args .at) n (c .pre .held) body (c .in-Trader .place) (c .amounts-owns .result) (c .amounts-weighs .result) rows (omega (arith, few, owns .0)) (omega (arith, few, weighs .0)) (owns .1 .1) (weighs .1 .1) told
-    (λ same. c .if-total-numbers .taken (c .total .ensures ∙ same))
+    (eqb-false _ _ (sym (c .if-not-adds-up-to .ensures tt)))
 
 pub returns-in-Goods : need.returns-in-Goods
 returns-in-Goods c =
@@ -76,8 +81,8 @@ returns-in-Sum c =
     moved-on file (c .args .at) (now (c .in-Sum .body)) (c .body .result .now) (c .add-sum .last .self) _ (c .body .ensures ∙ ap (λ f. fieldOf f .1) (c .in-Sum .is)) (c .add-sum .ensures)
     (held-sum file (c .args .at) n (c .pre .held) (now (c .in-Sum .body)) (c .in-Sum .field-1) told low)
 
-pub returns-else-total-numbers : need.returns-else-total-numbers
-returns-else-total-numbers c =
+pub returns-else-not-adds-up-to : need.returns-else-not-adds-up-to
+returns-else-not-adds-up-to c =
     let file = c .args .file .now in
     let n = c .args .numbers .now in
     let body = now (c .in-Trader .body) in
@@ -87,4 +92,4 @@ returns-else-total-numbers c =
     let weighs = c .amounts-weighs .ensures in
     let rows = halves body _ _ (2 * n .goods) (owns .1 .0) (weighs .1 .0) in
     moved-on file (c .args .at) body (c .body .result .now) (c .add-trader .last .self) _ (c .body .ensures ∙ ap (λ f. fieldOf f .1) (c .in-Trader .is)) (c .add-trader .ensures)
-    (held-trader file (c .args .at) n (c .pre .held) body (c .in-Trader .place) (c .amounts-owns .result) (c .amounts-weighs .result) rows (omega (arith, few, owns .0)) (omega (arith, few, weighs .0)) (owns .1 .1) (weighs .1 .1) told (sym (c .total .ensures) ∙ c .if-total-numbers .left))
+    (held-trader file (c .args .at) n (c .pre .held) body (c .in-Trader .place) (c .amounts-owns .result) (c .amounts-weighs .result) rows (omega (arith, few, owns .0)) (omega (arith, few, weighs .0)) (owns .1 .1) (weighs .1 .1) told (eqb-true _ _ (sym (c .if-not-adds-up-to .ensures tt))))

@@ -5,7 +5,7 @@ use Rattle.market.specs.Rows.{tradersIn}
 use Rattle.market.proofs.market.Market.owned.Given as given
 
 -- What the traders so far own, each an amount of two bytes.
-abbrev pub Inv-loop-a : given.InvT-loop-a
-Inv-loop-a l =
-    (l .sum ≡ ownedInAll (tradersIn (l .self .numbers .goods) (l .a) (l .self .numbers .endowments) (l .self .numbers .weights)) (l .good))
-    × (l .sum ≤ l .a * 65535)
+abbrev pub Inv-loop-row : given.InvT-loop-row
+Inv-loop-row l =
+    (l .sum ≡ ownedInAll (tradersIn (l .self .numbers .goods) (l .row) (l .self .numbers .endowments) (l .self .numbers .weights)) (l .good))
+    × (l .sum ≤ l .row * 65535)

@@ -8,5 +8,5 @@ use Rattle.market.specs.Rows.{short}
 use Rattle.market.proofs.rows.add.amounts.Given as given
 
 -- The numbers so far are written as the bytes so far.
-abbrev pub Inv-loop-k : given.InvT-loop-k
-Inv-loop-k l = (length (l .of) ≡ 8) × (joined two (take (l .k) (l .of)) ≡ take (2 * l .k) (l .body)) × (short (take (l .k) (l .of)) ≡ true)
+abbrev pub Inv-loop-good : given.InvT-loop-good
+Inv-loop-good l = (length (l .of) ≡ 8) × (joined two (take (l .good) (l .of)) ≡ take (2 * l .good) (l .body)) × (short (take (l .good) (l .of)) ≡ true)
