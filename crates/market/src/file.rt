@@ -37,11 +37,10 @@ impl<'f> MarketFile<'f> {
         ensures value { λ r. ⌜ answered now r ≡ nameFor (now (now (self .entry) .bytes)) (now (self .entry) .found) good ⌝ }
         ensures place { λ r. ⌜ made r (λ s. NameStands (now (now (self .entry) .bytes)) (now (self .entry) .found) good (now s)) ⌝ }
     {
-        let Ok(market) = self.found else {
-            return Err(Refusal::NoSuchGood);
-        };
-        let span = market.name_span(good)?;
-        Ok(span.of(self.bytes))
+        match self.found {
+            Ok(market) => market.name_in(self.bytes, good),
+            Err(_) => Err(Refusal::NoSuchGood),
+        }
     }
 
     // The place of that name in the file, counted from 0. Refused alike.

@@ -8,6 +8,7 @@ use crate::rows::Numbers;
 
 mod excess;
 mod make;
+mod parts;
 
 pub use excess::MarketLabelling;
 

@@ -45,34 +45,6 @@ fn difference(demand: u64, supply: u64) -> i64
 }
 
 impl Market {
-    // How many goods are traded.
-    pub fn goods(&self) -> usize
-        ensures { λ r. ⌜ r ≡ now (self .entry) .numbers .goods ⌝ }
-    {
-        self.numbers.goods
-    }
-
-    // What each trader's weights add up to.
-    pub fn weight_sum(&self) -> u32
-        ensures { λ r. ⌜ r ≡ now (self .entry) .numbers .sum ⌝ }
-    {
-        self.numbers.sum
-    }
-
-    // How many traders there are.
-    pub fn traders(&self) -> usize
-        ensures { λ r. ⌜ r ≡ length (tradersOf (now (self .entry))) ⌝ }
-    {
-        self.rows()
-    }
-
-    // How many rows of the tables are filled.
-    fn rows(&self) -> usize
-        ensures { λ r. ⌜ r ≡ now (self .entry) .numbers .traders ⌝ }
-    {
-        self.numbers.traders
-    }
-
     // What all traders own of a good.
     pub(super) fn owned(&self, good: usize) -> u32
         requires { ⌜ 1 ≤ good ⌝ ∗ ⌜ good ≤ now self .numbers .goods ⌝ }

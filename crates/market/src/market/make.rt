@@ -6,6 +6,9 @@ ghost use Rattle.std.specs.Options.{Cases};
 ghost use Rattle.std.specs.declared.result.Result.the-variants.{Ok};
 ghost use Rattle.mesh.specs.Range.{between};
 ghost use Rattle.mesh.specs.Refusals.{answered, insist};
+ghost use denote.Ref.{now};
+ghost use Rattle.std.specs.Vec.{made};
+ghost use Rattle.market.specs.Names.{nameFor, NameStands};
 ghost use Rattle.market.specs.Markets.{MarketNumbers, AllOwned, FirstUnowned};
 use super::Market;
 use crate::rows::Numbers;
@@ -40,5 +43,14 @@ impl Market {
             return Err(Refusal::NoSuchGood);
         }
         Ok(self.numbers.names[good - 1])
+    }
+
+    // The name of a good, as a part of the file that was read.
+    pub(crate) fn name_in<'f>(&self, file: &'f [u8], good: usize) -> Result<&'f [u8], Refusal>
+        ensures value { λ r. ⌜ answered now r ≡ nameFor (now (file .entry)) (Ok (now (self .entry))) good ⌝ }
+        ensures place { λ r. ⌜ made r (λ s. NameStands (now (file .entry)) (Ok (now (self .entry))) good (now s)) ⌝ }
+    {
+        let span = self.name_span(good)?;
+        Ok(span.of(file))
     }
 }
