@@ -1,0 +1,2 @@
+pub mod Pigeons
+pub mod Addresses
