@@ -1,61 +1,65 @@
 -- As many different values below n as there are places: each value occurs. The place of a number in a list.
 use Prim.Native.Nat.{ℕ, zero, suc, _-_, _≤_, _<_}
-use mathlib.Core.Path.{_≡_}
+use mathlib.Core.Path.{_≡_, sym, ap, _∙_}
 use mathlib.Core.Bool.{cond}
 use mathlib.Core.List.{List, [], _∷_}
 use mathlib.Core.Logic.{_⊎_, inl, inr}
 use native.Mathlib.Omega.{arith}
 use lib.Dec.{eqb}
 use lib.ListN.{length, getD}
-use Rattle.std.proofs.shelf.Tests.{cases-lt, cases-eq, cases-bool, eqb-true, eq-eqb, cond-true, cond-false}
-use Rattle.std.proofs.shelf.Ways.{tells}
+use Rattle.std.proofs.shelf.Tests.{cases-lt, cases-eq, cases-bool, eqb-true, eq-eqb, ne-eqb, cond-true, cond-false}
 use Rattle.cells.specs.Corners.{Apart}
+use Rattle.cells.proofs.Pigeons.{pigeonhole}
 
--- The value n gives way to the last value.
-abbrev instead : ℕ → (ℕ → ℕ) → ℕ → ℕ
-instead n f k = cond (eqb (f k) n) (f n) (f k)
-
-instead-apart : (n : ℕ) (f : ℕ → ℕ) → Apart (suc n) f → Apart n (instead n f)
-instead-apart n f apart i j hi hj e =
-    let ends : f i ≡ f n → ⊥ = λ q. omega (arith, apart i n (omega arith) (omega arith) q) in
-    let other : f j ≡ f n → ⊥ = λ q. omega (arith, apart j n (omega arith) (omega arith) q) in
-    apart i j (omega arith) (omega arith) (grind (arith, tells))
-
+-- The value y stands at one of the places below n.
 abbrev pub Occurs : ℕ → (ℕ → ℕ) → ℕ → Type 0
 Occurs n f y = (k : ℕ) × (k < n) × (f k ≡ y)
 
-instead-below : (n : ℕ) (f : ℕ → ℕ) → ((k : ℕ) → k < suc n → f k < suc n) → Apart (suc n) f → (k : ℕ) → k < n → instead n f k < n
-instead-below n f below apart k low =
-    let b = below k (omega arith) in
-    let c = below n (omega arith) in
-    let d : f k ≡ f n → ⊥ = λ q. omega (arith, apart k n (omega arith) (omega arith) q) in
-    grind (arith, tells)
-
--- A value that is not the last one, or the value n.
-from-instead : (n : ℕ) (f : ℕ → ℕ) (z : ℕ) → (f n ≡ z → ⊥) → Occurs n (instead n f) z → Occurs (suc n) f z
-from-instead n f z ne r =
-    let k = r .0 in
-    let e : cond (eqb (f k) n) (f n) (f k) ≡ z = r .2 in
-    (r .0, omega (arith, r .1), grind (arith, tells))
-
-from-last : (n : ℕ) (f : ℕ → ℕ) → Apart (suc n) f → Occurs n (instead n f) (f n) → Occurs (suc n) f n
-from-last n f apart r =
-    let k = r .0 in
-    let e : cond (eqb (f k) n) (f n) (f k) ≡ f n = r .2 in
-    let low : k < n = r .1 in
-    let d : f k ≡ f n → ⊥ = λ q. omega (arith, apart k n (omega arith) (omega arith) q) in
-    (k, omega (arith, r .1), grind (arith, tells))
-
-pub onto : (n : ℕ) (f : ℕ → ℕ) → ((k : ℕ) → k < n → f k < n) → Apart n f → (y : ℕ) → y < n → Occurs n f y
-onto zero f below apart y h = absurd (omega arith)
-onto (suc n) f below apart y h =
+occurs : (n : ℕ) (f : ℕ → ℕ) (y : ℕ) → Occurs n f y ⊎ ((k : ℕ) → k < n → f k ≡ y → ⊥)
+occurs zero f y = inr (λ k low e. omega (arith, low))
+occurs (suc n) f y =
     elim (cases-eq (f n) y) [
-      | inl e ↦ (n, omega arith, e)
-      | inr ne ↦ elim (cases-eq y n) [
-        | inl e ↦ rw e (from-last n f apart (onto n (instead n f) (instead-below n f below apart) (instead-apart n f apart) (f n) (omega (arith, below n (omega arith)))))
-        | inr q ↦ from-instead n f y ne (onto n (instead n f) (instead-below n f below apart) (instead-apart n f apart) y (omega arith))
+      | inl e ↦ inl (n, omega arith, e)
+      | inr ne ↦ elim (occurs n f y) [
+        | inl o ↦ inl (o .0, omega (arith, o .1), o .2)
+        | inr none ↦ inr (λ k low e. elim (cases-lt k n) [
+          | inl below ↦ none k below e
+          | inr last ↦ let same : k ≡ n = omega (arith, low, last) in ne (ap f (sym same) ∙ e)
+        ])
       ]
     ]
+
+-- One more place, with the value y.
+abbrev more : ℕ → (ℕ → ℕ) → ℕ → ℕ → ℕ
+more n f y k = cond (eqb k n) y (f k)
+
+-- A value that occurs nowhere would have room for one place more than there are values.
+pub onto : (n : ℕ) (f : ℕ → ℕ) → ((k : ℕ) → k < n → f k < n) → Apart n f → (y : ℕ) → y < n → Occurs n f y
+onto n f below apart y h =
+    elim (occurs n f y) [
+      | inl o ↦ o
+      | inr none ↦ absurd (omega (arith, pigeonhole (suc n) n (more n f y) small (differ none)))
+    ]
+  where
+    small : (k : ℕ) → k < suc n → more n f y k < n
+    small k low =
+        elim (cases-eq k n) [
+          | inl e ↦ rw (cond-true (eqb k n) y (f k) (eq-eqb k n e)) h
+          | inr ne ↦ rw (cond-false (eqb k n) y (f k) (ne-eqb k n ne)) (below k (omega (arith, low, ne)))
+        ]
+
+    differ : ((k : ℕ) → k < n → f k ≡ y → ⊥) → Apart (suc n) (more n f y)
+    differ none i j hi hj e =
+        elim (cases-eq i n) [
+          | inl a ↦ elim (cases-eq j n) [
+            | inl b ↦ a ∙ sym b
+            | inr b ↦ absurd (none j (omega (arith, hj, b)) (sym (cond-false (eqb j n) y (f j) (ne-eqb j n b)) ∙ sym e ∙ cond-true (eqb i n) y (f i) (eq-eqb i n a)))
+          ]
+          | inr a ↦ elim (cases-eq j n) [
+            | inl b ↦ absurd (none i (omega (arith, hi, a)) (sym (cond-false (eqb i n) y (f i) (ne-eqb i n a)) ∙ e ∙ cond-true (eqb j n) y (f j) (eq-eqb j n b)))
+            | inr b ↦ apart i j (omega (arith, hi, a)) (omega (arith, hj, b)) (sym (cond-false (eqb i n) y (f i) (ne-eqb i n a)) ∙ e ∙ cond-false (eqb j n) y (f j) (ne-eqb j n b))
+          ]
+        ]
 
 -- The first place of x in a list.
 abbrev pub find : List ℕ → ℕ → ℕ
