@@ -1,3 +1,4 @@
 pub mod Corners
 pub mod Triangulation
 pub mod Counting
+pub mod Cells

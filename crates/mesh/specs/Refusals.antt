@@ -8,7 +8,7 @@ use Rattle.std.specs.declared.option.Option.the-variants.{Some, None}
 use Rattle.std.specs.declared.result.Result.{Result}
 use Rattle.std.specs.declared.result.Result.the-variants.{Ok, Err}
 use Rattle.mesh.specs.declared.refusal.Refusal.{Refusal}
-use Rattle.mesh.specs.declared.refusal.Refusal.the-variants.{GoodsOutOfRange, MeshOutOfRange, NotAPricePoint, NoSuchGood, SheetMeshOutOfRange, SheetLength, Truncated, TagNotDue, LengthWrong, ValueOutOfRange, WeightsOffSum, GoodUnowned}
+use Rattle.mesh.specs.declared.refusal.Refusal.the-variants.{GoodsOutOfRange, MeshOutOfRange, NotAPricePoint, NotAdmitted, NoSuchGood, NoSuchPlace, SheetMeshOutOfRange, SheetLength, Truncated, TagNotDue, LengthWrong, ValueOutOfRange, WeightsOffSum, GoodUnowned}
 
 -- A refusal's number with the values that it carries.
 abbrev pub Told : Type 0
@@ -18,7 +18,9 @@ abbrev pub told : Refusal → Told
 told GoodsOutOfRange = (1, [])
 told MeshOutOfRange = (2, [])
 told NotAPricePoint = (3, [])
+told NotAdmitted = (4, [])
 told NoSuchGood = (11, [])
+told NoSuchPlace = (12, [])
 told SheetMeshOutOfRange = (15, [])
 told SheetLength = (16, [])
 told (Truncated place) = (21, place ∷ [])

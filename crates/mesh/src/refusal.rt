@@ -6,7 +6,9 @@ pub enum Refusal {
     GoodsOutOfRange,
     MeshOutOfRange,
     NotAPricePoint,
+    NotAdmitted,
     NoSuchGood,
+    NoSuchPlace,
     SheetMeshOutOfRange,
     SheetLength,
     // the reader's refusals hold the place of the field's tag byte
