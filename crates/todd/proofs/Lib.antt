@@ -25,3 +25,4 @@ pub mod Between
 pub mod CrossK1
 pub mod CrossJ1
 pub mod Triangulations
+pub mod Walking

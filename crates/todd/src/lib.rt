@@ -1,6 +1,8 @@
 // Todd's triangulations K1 and J1: that they keep the laws.
 ghost use Rattle.todd.specs.Laws.{K1-lawful, J1-lawful};
 
+mod steps;
+
 pub fn lawful() -> bool
     ensures k1 { λ _. ⌜ K1-lawful ⌝ }
     ensures j1 { λ _. ⌜ J1-lawful ⌝ }
