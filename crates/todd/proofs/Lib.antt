@@ -26,3 +26,6 @@ pub mod CrossK1
 pub mod CrossJ1
 pub mod Triangulations
 pub mod Walking
+pub mod CrossRecords
+pub mod Turns
+pub mod K1Records

@@ -2,10 +2,10 @@
 ghost use mathlib.Core.Path.{_≡_};
 ghost use mathlib.Core.Bool.{true, false, cond};
 ghost use Prim.Native.Nat.{ℕ, _+_, _-_, _≤_, _<_};
-ghost use lib.ListN.{length, getD, take};
+ghost use lib.ListN.{length, getD, set, take};
 ghost use Rattle.std.specs.declared.option.Option.the-variants.{Some, None};
 ghost use Rattle.todd.specs.Steps.{level, shift, stop};
-ghost use Rattle.todd.specs.Walk.{step, Holds, cornerAt, stopNumber};
+ghost use Rattle.todd.specs.Walk.{step, Holds, cornerAt, stopNumber, Crosses, TurnedLeft, TurnedRight, middleAcross};
 use cells::cell::Cell;
 use mesh::grid::Grid;
 
@@ -13,11 +13,15 @@ use mesh::grid::Grid;
 fn stepped(up: bool, x: u32) -> u32
     ensures { λ r. ⌜ (x < 4294967295 → r ≡ step up x) ⌝ }
 {
-    if up { x.saturating_add(1) } else { x.saturating_sub(1) }
+    if up {
+        x.saturating_add(1)
+    } else {
+        x.saturating_sub(1)
+    }
 }
 
 // Moves level j by one, where there is such a level.
-fn shift_level(levels: &mut [u32], up: bool, j: usize)
+pub fn shift_level(levels: &mut [u32], up: bool, j: usize)
     ensures { λ _. ⌜ (1 ≤ j → j ≤ length (now (levels .entry)) → level (now (levels .entry)) j < 4294967295 → now (levels .exit) ≡ shift up (now (levels .entry)) j) ⌝ }
 {
     if j >= 1 && j <= levels.len() {
@@ -26,10 +30,14 @@ fn shift_level(levels: &mut [u32], up: bool, j: usize)
 }
 
 // The direction of level j.
-fn upward(cell: &Cell, j: usize) -> bool
+pub fn upward(cell: &Cell, j: usize) -> bool
     ensures { λ r. ⌜ (1 ≤ j → j ≤ 8 → j ≤ length (now (cell .entry) .ups) → r ≡ getD (now (cell .entry) .ups) (j - 1) true) ⌝ }
 {
-    if j >= 1 && j <= 8 { cell.ups[j - 1] } else { true }
+    if j >= 1 && j <= 8 {
+        cell.ups[j - 1]
+    } else {
+        true
+    }
 }
 
 // The levels of the corner at a place.
@@ -75,7 +83,7 @@ fn wall_if(tied: bool, wall: u8) -> Option<u8>
 }
 
 // The wall that keeps level j of the corner at a place from moving up by one.
-fn stop_up(grid: &Grid, cell: &Cell, place: usize, j: usize) -> Option<u8>
+pub fn stop_up(grid: &Grid, cell: &Cell, place: usize, j: usize) -> Option<u8>
     requires { ⌜ place ≤ now grid .goods ⌝ }
     ensures { λ r. ⌜ (Holds (now (grid .entry)) (now (cell .entry)) → 1 ≤ j → j ≤ now (grid .entry) .goods → r ≡ stopNumber (stop (now (grid .entry) .mesh) true (cornerAt (now (grid .entry)) (now (cell .entry)) place) j)) ⌝ }
 {
@@ -94,7 +102,7 @@ fn stop_up(grid: &Grid, cell: &Cell, place: usize, j: usize) -> Option<u8>
 }
 
 // The wall that keeps level j of the corner at a place from moving down by one.
-fn stop_down(grid: &Grid, cell: &Cell, place: usize, j: usize) -> Option<u8>
+pub fn stop_down(grid: &Grid, cell: &Cell, place: usize, j: usize) -> Option<u8>
     requires { ⌜ place ≤ now grid .goods ⌝ }
     ensures { λ r. ⌜ (Holds (now (grid .entry)) (now (cell .entry)) → 1 ≤ j → j ≤ now (grid .entry) .goods → r ≡ stopNumber (stop (now (grid .entry) .mesh) false (cornerAt (now (grid .entry)) (now (cell .entry)) place) j)) ⌝ }
 {
@@ -110,4 +118,69 @@ fn stop_down(grid: &Grid, cell: &Cell, place: usize, j: usize) -> Option<u8>
     }
     let below = level_of(grid, cell, place, j + 1);
     wall_if(here == below, j as u8)
+}
+
+// The wall that keeps level j of the corner at a place from moving by one in a direction.
+pub fn stop_at(grid: &Grid, cell: &Cell, place: usize, up: bool, j: usize) -> Option<u8>
+    requires { ⌜ place ≤ now grid .goods ⌝ }
+    ensures { λ r. ⌜ (Holds (now (grid .entry)) (now (cell .entry)) → 1 ≤ j → j ≤ now (grid .entry) .goods → r ≡ stopNumber (stop (now (grid .entry) .mesh) up (cornerAt (now (grid .entry)) (now (cell .entry)) place) j)) ⌝ }
+{
+    if up {
+        stop_up(grid, cell, place, j)
+    } else {
+        stop_down(grid, cell, place, j)
+    }
+}
+
+// The order with its first entry moved to the end.
+pub fn turned_left(grid: &Grid, cell: &Cell) -> [u8; 8]
+    ensures { λ r. ⌜ TurnedLeft (now (grid .entry) .goods) (now (cell .entry) .order) r ⌝ }
+{
+    let goods = grid.goods();
+    let mut order = [0u8; 8];
+    for k in 1..goods {
+        order[k - 1] = cell.order[k];
+    }
+    order[goods - 1] = cell.order[0];
+    order
+}
+
+// The order with its last entry moved to the front.
+pub fn turned_right(grid: &Grid, cell: &Cell) -> [u8; 8]
+    ensures { λ r. ⌜ TurnedRight (now (grid .entry) .goods) (now (cell .entry) .order) r ⌝ }
+{
+    let goods = grid.goods();
+    let mut order = [0u8; 8];
+    for k in 1..goods {
+        order[k] = cell.order[k - 1];
+    }
+    order[0] = cell.order[goods - 1];
+    order
+}
+
+// The levels on both sides of a place change places in the order.
+fn swap(cell: &mut Cell, place: usize)
+    requires { ⌜ 1 ≤ place ⌝ ∗ ⌜ place < 8 ⌝ }
+    ensures order { λ _. ⌜ now (cell .exit) .order ≡ set (set (now (cell .entry) .order) (place - 1) (getD (now (cell .entry) .order) place 0)) place (getD (now (cell .entry) .order) (place - 1) 0) ⌝ }
+    ensures base { λ _. ⌜ now (cell .exit) .base ≡ now (cell .entry) .base ⌝ }
+    ensures ups { λ _. ⌜ now (cell .exit) .ups ≡ now (cell .entry) .ups ⌝ }
+{
+    let before = cell.order[place - 1];
+    cell.order[place - 1] = cell.order[place];
+    cell.order[place] = before;
+}
+
+// Crosses a cell at a place between the first and the last.
+pub fn cross_middle(grid: &Grid, cell: &mut Cell, place: usize) -> (u8, u8)
+    requires { ⌜ 1 ≤ place ⌝ ∗ ⌜ place < now grid .goods ⌝ }
+    ensures { λ r. ⌜ (Holds (now (grid .entry)) (now (cell .entry)) → Crosses (now (grid .entry) .goods) (now (cell .entry)) place (middleAcross (now (grid .entry)) (now (cell .entry)) place) r (now (cell .exit))) ⌝ }
+{
+    let j = cell.order[place] as usize;
+    let up = upward(cell, j);
+    let stop = stop_at(grid, cell, place - 1, up, j);
+    if let Some(wall) = stop {
+        return (place as u8, wall);
+    }
+    swap(cell, place);
+    (place as u8, 0)
 }
