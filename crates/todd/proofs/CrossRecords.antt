@@ -1,9 +1,9 @@
 -- Crossing a record of a cell: what the code answers and leaves is what lies across.
-use Prim.Native.Nat.{ℕ, zero, suc, _+_, _-_, _≤_, _<_}
+use Prim.Native.Nat.{ℕ, suc, _+_, _-_, _≤_, _<_}
 use mathlib.Core.Path.{_≡_, refl, sym, _∙_, ap}
-use mathlib.Core.Bool.{Bool, true, false, cond}
+use mathlib.Core.Bool.{Bool, true}
 use mathlib.Core.List.{List, [], _∷_}
-use mathlib.Core.Logic.{_≢_, inl, inr}
+use mathlib.Core.Logic.{inl, inr}
 use native.Mathlib.Omega.{arith}
 use lib.ListN.{length, getD, take, set}
 use Rattle.std.specs.declared.option.Option.{Option}
@@ -17,7 +17,7 @@ use Rattle.cells.specs.Cells.{shapeOf}
 use Rattle.cells.specs.declared.cell.Cell.{Cell}
 use Rattle.todd.specs.Steps.{level, shift, nth, stop, orElse, swapAt}
 use Rattle.todd.specs.J1.{j1Middle, upward}
-use Rattle.todd.specs.Walk.{Holds, cornerAt, stopNumber, Crosses}
+use Rattle.todd.specs.Walk.{Holds, stopNumber, Crosses}
 use Rattle.todd.proofs.Walking.{take-set-front, take-shift, order-is, order-low, order-high, ups-long, base-long, level-room}
 
 -- One more entry of an order that turns left.

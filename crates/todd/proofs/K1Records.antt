@@ -1,23 +1,23 @@
 -- K1 on records of cells.
-use Prim.Native.Nat.{ℕ, zero, suc, _+_, _-_, _≤_, _<_}
+use Prim.Native.Nat.{ℕ, suc, _-_, _≤_, _<_}
 use mathlib.Core.Path.{_≡_, refl, sym, _∙_, ap, subst}
-use mathlib.Core.Bool.{Bool, true, false, cond}
-use mathlib.Core.List.{List, [], _∷_, _++_}
+use mathlib.Core.Bool.{true, false}
+use mathlib.Core.List.{List, [], _∷_}
 use native.Mathlib.Omega.{arith}
 use lib.Dec.{eqb}
-use lib.ListN.{length, getD, take, drop}
+use lib.ListN.{length, getD, take}
 use Rattle.std.specs.declared.option.Option.{Option}
 use Rattle.std.specs.declared.option.Option.the-variants.{Some, None}
-use Rattle.std.specs.declared.result.Result.the-variants.{Ok, Err}
-use Rattle.std.proofs.shelf.Tests.{eq-eqb, ne-eqb, cond-true, cond-false}
+use Rattle.std.specs.declared.result.Result.the-variants.{Ok}
+use Rattle.std.proofs.shelf.Tests.{ne-eqb, cond-false}
 use Rattle.mesh.specs.declared.grid.Grid.{Grid}
 use Rattle.cells.specs.Triangulation.{Shape, Across, moved}
 use Rattle.cells.specs.Cells.{shapeOf, crossing, Reached, CornerAnswer, AcrossAnswer}
 use Rattle.cells.specs.declared.cell.Cell.{Cell}
 use Rattle.todd.specs.Steps.{shift, nth, stop, orElse}
-use Rattle.todd.specs.K1.{K1Cell, k1Corner, k1First, k1Last, k1Middle, k1Across, k1}
-use Rattle.todd.specs.J1.{j1Corner, upward}
-use Rattle.todd.specs.Walk.{Sound, Holds, HoldsK1, cornerAt, stopNumber, Crosses, TurnedLeft, TurnedRight, middleAcross, k1FirstAcross, k1LastAcross}
+use Rattle.todd.specs.K1.{k1Corner, k1First, k1Last, k1Middle, k1Across, k1}
+use Rattle.todd.specs.J1.{j1Corner}
+use Rattle.todd.specs.Walk.{Holds, HoldsK1, cornerAt, stopNumber, Crosses, TurnedLeft, TurnedRight, middleAcross, k1FirstAcross, k1LastAcross}
 use Rattle.todd.proofs.Bridge.{k1-way, k1-corner, k1-listed}
 use Rattle.todd.proofs.Turns.{left-is, right-is}
 use Rattle.todd.proofs.CrossRecords.{cross-wall, cross-moved, stop-nth, base-moved, shape-is}
@@ -92,13 +92,7 @@ module _ (d : Grid) (c : Cell) where
         in
         cross-moved g c _ g _ _ _ (sym at ∙ last-stop is tells) e
 
-  -- Which of the three lies across a place.
-  pub across-first : (i : ℕ) → i ≡ 0 → k1Across (d .goods) (d .mesh) (shapeOf (d .goods) c) i ≡ k1FirstAcross d c
-  across-first i e = cond-true (eqb i 0) _ _ (eq-eqb i 0 e)
-
-  pub across-last : (i : ℕ) → (i ≡ 0 → ⊥) → i ≡ d .goods → k1Across (d .goods) (d .mesh) (shapeOf (d .goods) c) i ≡ k1LastAcross d c
-  across-last i ne e = cond-false (eqb i 0) _ _ (ne-eqb i 0 ne) ∙ cond-true (eqb i (d .goods)) _ _ (eq-eqb i (d .goods) e)
-
+  -- What lies across a place between.
   pub across-middle : HoldsK1 d c → (i : ℕ) → (i ≡ 0 → ⊥) → (i ≡ d .goods → ⊥)
       → k1Across (d .goods) (d .mesh) (shapeOf (d .goods) c) i ≡ middleAcross d c i
   across-middle cell i no-first no-last =

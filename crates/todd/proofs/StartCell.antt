@@ -20,20 +20,20 @@ use Rattle.todd.proofs.Bridge.{family, way, least, first-is, order-perm, Liste
 use Rattle.todd.proofs.Labels.{under-is}
 use Rattle.todd.proofs.Alike.{at-same, same-turn, valid-like}
 
-length-up : (j n : ℕ) → length (upFrom j n) ≡ n
+pub length-up : (j n : ℕ) → length (upFrom j n) ≡ n
 length-up j zero = refl
 length-up j (suc n) = ap suc (length-up (suc j) n)
 
-up-at : (j n k : ℕ) → k < n → getD (upFrom j n) k 0 ≡ suc (j + k)
+pub up-at : (j n k : ℕ) → k < n → getD (upFrom j n) k 0 ≡ suc (j + k)
 up-at j zero k h = absurd (omega arith)
 up-at j (suc n) zero h = omega arith
 up-at j (suc n) (suc k) h = omega (arith, up-at (suc j) n k (omega arith))
 
-length-down : (n : ℕ) → length (downFrom n) ≡ n
+pub length-down : (n : ℕ) → length (downFrom n) ≡ n
 length-down zero = refl
 length-down (suc n) = ap suc (length-down n)
 
-down-at : (n k : ℕ) → k < n → getD (downFrom n) k 0 ≡ n - k
+pub down-at : (n k : ℕ) → k < n → getD (downFrom n) k 0 ≡ n - k
 down-at zero k h = absurd (omega arith)
 down-at (suc n) zero h = omega arith
 down-at (suc n) (suc k) h = omega (arith, down-at n k (omega arith))

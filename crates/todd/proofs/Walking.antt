@@ -1,6 +1,6 @@
 -- One step of the loop that goes through the corners of a cell, and one level of a corner.
-use Prim.Native.Nat.{ℕ, zero, suc, _+_, _-_, _≤_, _<_, min}
-use mathlib.Core.Path.{_≡_, refl, sym, _∙_, ap, subst}
+use Prim.Native.Nat.{ℕ, zero, suc, _+_, _-_, _≤_, _<_}
+use mathlib.Core.Path.{_≡_, refl, sym, _∙_, ap}
 use mathlib.Core.Bool.{Bool, true, false, cond}
 use mathlib.Core.List.{List, [], _∷_}
 use mathlib.Core.Logic.{_≢_, ⊎-elim}
@@ -16,7 +16,7 @@ use Rattle.cells.specs.Corners.{Corner}
 use Rattle.cells.specs.Cells.{shapeOf}
 use Rattle.cells.specs.declared.cell.Cell.{Cell}
 use Rattle.todd.specs.Steps.{level, shift, nth}
-use Rattle.todd.specs.J1.{j1Corner, upward}
+use Rattle.todd.specs.J1.{upward}
 use Rattle.todd.specs.Walk.{step, Holds, cornerAt}
 use Rattle.todd.proofs.Bridge as bridge
 use Rattle.todd.proofs.Bridge.{shift-same, shift-other}

@@ -1,7 +1,7 @@
 -- What the code of K1 and J1 has in common. A cell of K1 is one of J1's form with all directions up, so both speak of the corners of J1.
 use Prim.Native.Nat.{ℕ, suc, _+_, _-_, _≤_, _<_}
 use mathlib.Core.Path.{_≡_}
-use mathlib.Core.Bool.{Bool, true, false, cond}
+use mathlib.Core.Bool.{Bool, true, false, not, cond}
 use mathlib.Core.List.{List}
 use lib.ListN.{length, getD}
 use Rattle.std.specs.declared.option.Option.{Option}
@@ -13,7 +13,7 @@ use Rattle.cells.specs.Cells.{shapeOf, wallCode, crossing, Reached}
 use Rattle.cells.specs.declared.cell.Cell.{Cell}
 use Rattle.todd.specs.Steps.{IsOrder, nth, stop, orElse}
 use Rattle.todd.specs.K1.{K1Cell, k1Corner, k1First, k1Last}
-use Rattle.todd.specs.J1.{j1Corner, j1Middle, upward}
+use Rattle.todd.specs.J1.{j1Corner, j1First, j1Last, j1Middle, upward}
 
 -- A number moved by one, up or down.
 abbrev pub step : Bool → ℕ → ℕ
@@ -75,3 +75,20 @@ k1LastAcross d c =
 -- The record says a cell of K1.
 abbrev pub HoldsK1 : Grid → Cell → Type 0
 HoldsK1 d c = K1Cell (d .goods) (d .mesh) (shapeOf (d .goods) c)
+
+-- What lies in J1 across the first place, and across the last.
+abbrev pub j1FirstAcross : Grid → Cell → Across Shape
+j1FirstAcross d c =
+    let s = shapeOf (d .goods) c in
+    orElse (stop (d .mesh) (upward s (nth (s .order) 1)) (j1Corner s 1) (nth (s .order) 1)) (moved (j1First s) 0)
+
+abbrev pub j1LastAcross : Grid → Cell → Across Shape
+j1LastAcross d c =
+    let s = shapeOf (d .goods) c in
+    orElse (stop (d .mesh) (not (upward s (nth (s .order) (d .goods)))) (j1Corner s (d .goods - 1)) (nth (s .order) (d .goods)))
+    (moved (j1Last (d .goods) s) (d .goods))
+
+-- Each entry of r is one more than that of v, as far as it fits.
+pub record Raised (v r : List ℕ) : Type 0 where
+  pub size : length r ≡ 8
+  pub more : (k : ℕ) → k < 8 → getD v k 0 < 4294967295 → getD r k 0 ≡ suc (getD v k 0)

@@ -1,6 +1,7 @@
-// Todd's triangulations K1 and J1: that they keep the laws, and K1 as code.
+// Todd's triangulations K1 and J1.
 ghost use Rattle.todd.specs.Laws.{K1-lawful, J1-lawful};
 
+pub mod j1;
 pub mod k1;
 mod steps;
 
