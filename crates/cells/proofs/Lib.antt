@@ -1,2 +1,3 @@
 pub mod Pigeons
 pub mod Addresses
+pub mod OuterLabels

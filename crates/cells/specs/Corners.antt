@@ -53,3 +53,10 @@ skip i k = cond (ltb k i) k (suc k)
 -- f takes pairwise different values at 0 to n - 1.
 abbrev pub Apart : {A : Type 0} → ℕ → (ℕ → A) → Type 0
 Apart n f = (i j : ℕ) → i < n → j < n → f i ≡ f j → i ≡ j
+
+-- The outer label l of the corner v for the start prices c, in words: the smallest good whose price is above that of the start. So it is a good with a price.
+pub record LabelsOuter (g : ℕ) (c v : List ℕ) (l : ℕ) : Type 0 where
+  pub low : 1 ≤ l
+  pub high : l ≤ g
+  pub above : price c l < price (toPrices v) l
+  pub smallest : (i : ℕ) → 1 ≤ i → i < l → price (toPrices v) i ≤ price c i

@@ -5,6 +5,7 @@ use mathlib.Core.List.{List}
 use lib.ListN.{length, getD}
 use Rattle.std.specs.shelf.Lists.{All}
 use Rattle.cells.specs.Corners.{Apart}
+use Rattle.cells.specs.Triangulation.{Shape, Mesh}
 
 -- (D + 1)^g - D^g: how many lists of g numbers up to D have a D among them.
 abbrev pub bound : ℕ → ℕ → ℕ
@@ -19,3 +20,7 @@ Addresses-bounded =
 -- No more than that many points fit apart into 0 to n - 1.
 abbrev pub Pigeonhole : Type 0
 Pigeonhole = (m n : ℕ) (f : ℕ → ℕ) → ((i : ℕ) → i < m → f i < n) → Apart m f → m ≤ n
+
+-- No more than that many different cells of the mesh M can be listed.
+abbrev pub CellsBounded : {g D : ℕ} → Mesh Shape g D → Type 0
+CellsBounded {g} {D} M = (m : ℕ) (f : ℕ → Shape) → ((i : ℕ) → i < m → M .isCell (f i)) → Apart m f → m ≤ bound g D

@@ -1,7 +1,7 @@
 // Cells of a triangulation: what a triangulation answers, and how many cells there can be.
 ghost use mathlib.Core.Path.{_≡_};
 ghost use Prim.Native.Nat.{ℕ, _≤_};
-ghost use Rattle.cells.specs.Counting.{Addresses-bounded, Pigeonhole};
+ghost use Rattle.cells.specs.Counting.{Addresses-bounded, Pigeonhole, CellsBounded};
 ghost use Rattle.cells.specs.Triangulation.{Shape, Mesh, Lawful};
 ghost use Rattle.cells.specs.Cells.{shapeOf, startFor, CornerAnswer, AcrossAnswer};
 ghost use Rattle.mesh.specs.Points.{goodsOf, meshOf, pricesOf};
@@ -12,6 +12,7 @@ use mesh::point::PricePoint;
 use mesh::refusal::Refusal;
 
 pub mod cell;
+pub mod outer;
 
 // A triangulation: for every number of goods and every mesh, cells with corners and neighbours that keep the laws.
 pub trait Triangulation {
@@ -37,6 +38,13 @@ pub trait Triangulation {
 pub fn addresses_bounded() -> bool
     ensures holes { λ _. ⌜ Pigeonhole ⌝ }
     ensures bound { λ _. ⌜ Addresses-bounded ⌝ }
+{
+    true
+}
+
+// No mesh of a triangulation has more than (D + 1)^g - D^g cells.
+pub fn cells_bounded<T: Triangulation>(tri: &T) -> bool
+    ensures { λ _. ⌜ ((g D : ℕ) → 2 ≤ g → 1 ≤ D → CellsBounded (meaning (now (tri .entry)) g D)) ⌝ }
 {
     true
 }

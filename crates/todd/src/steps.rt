@@ -21,7 +21,7 @@ fn stepped(up: bool, x: u32) -> u32
 }
 
 // Moves level j by one, where there is such a level.
-pub fn shift_level(levels: &mut [u32], up: bool, j: usize)
+pub(crate) fn shift_level(levels: &mut [u32], up: bool, j: usize)
     ensures { λ _. ⌜ (1 ≤ j → j ≤ length (now (levels .entry)) → level (now (levels .entry)) j < 4294967295 → now (levels .exit) ≡ shift up (now (levels .entry)) j) ⌝ }
 {
     if j >= 1 && j <= levels.len() {
@@ -30,7 +30,7 @@ pub fn shift_level(levels: &mut [u32], up: bool, j: usize)
 }
 
 // The direction of level j.
-pub fn upward(cell: &Cell, j: usize) -> bool
+pub(crate) fn upward(cell: &Cell, j: usize) -> bool
     ensures { λ r. ⌜ (1 ≤ j → j ≤ 8 → j ≤ length (now (cell .entry) .ups) → r ≡ getD (now (cell .entry) .ups) (j - 1) true) ⌝ }
 {
     if j >= 1 && j <= 8 {
@@ -41,7 +41,7 @@ pub fn upward(cell: &Cell, j: usize) -> bool
 }
 
 // The levels of the corner at a place.
-pub fn corner_of(grid: &Grid, cell: &Cell, place: usize) -> [u32; 8]
+pub(crate) fn corner_of(grid: &Grid, cell: &Cell, place: usize) -> [u32; 8]
     requires { ⌜ place ≤ now grid .goods ⌝ }
     ensures { λ r. ⌜ (Holds (now (grid .entry)) (now (cell .entry)) → take (now (grid .entry) .goods) r ≡ cornerAt (now (grid .entry)) (now (cell .entry)) place) ⌝ }
 {
@@ -83,7 +83,7 @@ fn wall_if(tied: bool, wall: u8) -> Option<u8>
 }
 
 // The wall that keeps level j of the corner at a place from moving up by one.
-pub fn stop_up(grid: &Grid, cell: &Cell, place: usize, j: usize) -> Option<u8>
+pub(crate) fn stop_up(grid: &Grid, cell: &Cell, place: usize, j: usize) -> Option<u8>
     requires { ⌜ place ≤ now grid .goods ⌝ }
     ensures { λ r. ⌜ (Holds (now (grid .entry)) (now (cell .entry)) → 1 ≤ j → j ≤ now (grid .entry) .goods → r ≡ stopNumber (stop (now (grid .entry) .mesh) true (cornerAt (now (grid .entry)) (now (cell .entry)) place) j)) ⌝ }
 {
@@ -102,7 +102,7 @@ pub fn stop_up(grid: &Grid, cell: &Cell, place: usize, j: usize) -> Option<u8>
 }
 
 // The wall that keeps level j of the corner at a place from moving down by one.
-pub fn stop_down(grid: &Grid, cell: &Cell, place: usize, j: usize) -> Option<u8>
+pub(crate) fn stop_down(grid: &Grid, cell: &Cell, place: usize, j: usize) -> Option<u8>
     requires { ⌜ place ≤ now grid .goods ⌝ }
     ensures { λ r. ⌜ (Holds (now (grid .entry)) (now (cell .entry)) → 1 ≤ j → j ≤ now (grid .entry) .goods → r ≡ stopNumber (stop (now (grid .entry) .mesh) false (cornerAt (now (grid .entry)) (now (cell .entry)) place) j)) ⌝ }
 {
@@ -121,7 +121,7 @@ pub fn stop_down(grid: &Grid, cell: &Cell, place: usize, j: usize) -> Option<u8>
 }
 
 // The wall that keeps level j of the corner at a place from moving by one in a direction.
-pub fn stop_at(grid: &Grid, cell: &Cell, place: usize, up: bool, j: usize) -> Option<u8>
+pub(crate) fn stop_at(grid: &Grid, cell: &Cell, place: usize, up: bool, j: usize) -> Option<u8>
     requires { ⌜ place ≤ now grid .goods ⌝ }
     ensures { λ r. ⌜ (Holds (now (grid .entry)) (now (cell .entry)) → 1 ≤ j → j ≤ now (grid .entry) .goods → r ≡ stopNumber (stop (now (grid .entry) .mesh) up (cornerAt (now (grid .entry)) (now (cell .entry)) place) j)) ⌝ }
 {
@@ -133,7 +133,7 @@ pub fn stop_at(grid: &Grid, cell: &Cell, place: usize, up: bool, j: usize) -> Op
 }
 
 // The order with its first entry moved to the end.
-pub fn turned_left(grid: &Grid, cell: &Cell) -> [u8; 8]
+pub(crate) fn turned_left(grid: &Grid, cell: &Cell) -> [u8; 8]
     ensures { λ r. ⌜ TurnedLeft (now (grid .entry) .goods) (now (cell .entry) .order) r ⌝ }
 {
     let goods = grid.goods();
@@ -146,7 +146,7 @@ pub fn turned_left(grid: &Grid, cell: &Cell) -> [u8; 8]
 }
 
 // The order with its last entry moved to the front.
-pub fn turned_right(grid: &Grid, cell: &Cell) -> [u8; 8]
+pub(crate) fn turned_right(grid: &Grid, cell: &Cell) -> [u8; 8]
     ensures { λ r. ⌜ TurnedRight (now (grid .entry) .goods) (now (cell .entry) .order) r ⌝ }
 {
     let goods = grid.goods();
@@ -171,7 +171,7 @@ fn swap(cell: &mut Cell, place: usize)
 }
 
 // Crosses a cell at a place between the first and the last.
-pub fn cross_middle(grid: &Grid, cell: &mut Cell, place: usize) -> (u8, u8)
+pub(crate) fn cross_middle(grid: &Grid, cell: &mut Cell, place: usize) -> (u8, u8)
     requires { ⌜ 1 ≤ place ⌝ ∗ ⌜ place < now grid .goods ⌝ }
     ensures { λ r. ⌜ (Holds (now (grid .entry)) (now (cell .entry)) → Crosses (now (grid .entry) .goods) (now (cell .entry)) place (middleAcross (now (grid .entry)) (now (cell .entry)) place) r (now (cell .exit))) ⌝ }
 {
