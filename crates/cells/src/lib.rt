@@ -1,4 +1,6 @@
 // Cells of a triangulation: what a triangulation answers, and how many cells there can be.
+#![tactic(auto)]
+
 ghost use Rattle.std.specs.Prelude.{◌≡◌, ℕ, ◌≤◌};
 ghost use Rattle.cells.specs.Counting.{AddressesBounded, Pigeonhole, CellsBounded};
 ghost use Rattle.cells.specs.Triangulation.{Shape, Mesh, Lawful};

@@ -1,4 +1,6 @@
 // Worked examples: shown of the definitions, and run.
+#![tactic(auto)]
+
 ghost use Rattle.figures.specs.Examples.{WorkedExamples};
 
 #[cfg(test)]

@@ -1,4 +1,6 @@
 // Lists the cells that a flood through neighbours reaches, for K1 and J1 and small sizes: each with its corners and what lies across each place.
+#![tactic(auto)]
+
 ghost use Rattle.std.specs.Prelude.{◌≤◌};
 
 use cells::Triangulation;

@@ -1,4 +1,6 @@
 // Labellings of price points.
+#![tactic(auto)]
+
 ghost use Rattle.std.specs.Prelude.{◌≡◌, ℕ, ◌≤◌, List};
 ghost use Rattle.labelling.specs.Labels.{Rule};
 ghost use Rattle.mesh.specs.Points.{goods_of, mesh_of, prices_of};

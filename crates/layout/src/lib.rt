@@ -1,4 +1,6 @@
 // The laws of the market file's layout. Theory only: the function's contract is the theorem.
+#![tactic(auto)]
+
 ghost use Rattle.layout.specs.Laws.{OneEconomy, OneFault, NoFileHasAFault};
 
 // A byte string has one meaning: the economy it is the file of, or its first fault.

@@ -1,4 +1,6 @@
 // The text of the printed lines, each without its line feed.
+#![tactic(auto)]
+
 mod errors;
 mod heads;
 mod points;

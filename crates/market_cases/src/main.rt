@@ -1,4 +1,6 @@
 // Reads many market files, a line of hexadecimal digits each, and prints what each of them says or its fault.
+#![tactic(auto)]
+
 ghost use Rattle.std.specs.Prelude.{◌≤◌, length};
 
 use market::file::MarketFile;

@@ -1,4 +1,6 @@
 // Markets that are walked.
+#![tactic(auto)]
+
 ghost use Rattle.std.specs.Prelude.{◌≡◌, ℕ, List, ◌≢◌};
 ghost use Rattle.market.specs.Markets.{market_rule};
 ghost use Rattle.path.specs.Path.{Opening, Call, Path, Leads, halted};

@@ -1,8 +1,8 @@
 -- The levels of a price point, and a price point from levels.
-use Rattle.std.proofs.Common.{◌≡◌, ℕ, zero, suc, ◌+◌, ◌-◌, ◌<◌, ◌≤◌, Bool, true, false, eqb, List, [], length, get_or, take, drop, set, Ok, Err, sum, Result, sym, refl, ap, ◌∙◌, arith}
-use Rattle.std.proofs.lemmas.List.{length-take, length-set}
+use Rattle.std.proofs.Common.{◌≡◌, ℕ, ◌+◌, ◌-◌, ◌<◌, ◌≤◌, Bool, true, false, List, [], length, get_or, take, drop, set, Ok, Err, sum, Result, sym, refl, ap, ◌∙◌, arith}
+use Rattle.std.proofs.lemmas.List.{length-take}
 use Rattle.std.proofs.lemmas.Bool.{and_parts, eqb-true}
-use Rattle.mesh.specs.Prices.{first, Falls, falls, to_prices, to_levels}
+use Rattle.mesh.specs.Prices.{first, Falls, to_prices, to_levels}
 use Rattle.mesh.specs.Range.{fit_goods, fit_mesh}
 use Rattle.mesh.specs.Refusals.{Told, insist}
 use Rattle.mesh.specs.Points.{Priced, goods_of, mesh_of, prices_of, grid_for, levels_fit, point_at_levels}

@@ -1,5 +1,5 @@
 -- What a grid and a price point hold, and what making one answers.
-use Rattle.std.specs.Prelude.{ℕ, Bool, ◌&&◌, List, length, take, Ok, Err, Result, ◌==◌}
+use Rattle.std.specs.Prelude.{ℕ, Bool, ◌&&◌, List, length, take, Ok, Result, ◌==◌}
 use Rattle.mesh.specs.Range.{fit_goods, fit_mesh, prices_add_up}
 use Rattle.mesh.specs.Refusals.{Told, insist}
 use Rattle.mesh.specs.Prices.{first, falls, to_prices}

@@ -1,4 +1,6 @@
 // The path of a run, and what is true of every path: theory. A path goes by the meanings of a triangulation and a labelling alone.
+#![tactic(auto)]
+
 ghost use Rattle.std.specs.Prelude.{◌≡◌, ℕ, List};
 ghost use Rattle.cells.specs.Triangulation.{Shape};
 ghost use Rattle.path.specs.Claim.{Claim};

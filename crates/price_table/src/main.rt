@@ -1,4 +1,6 @@
 // Reads a market file, and prints its goods, its traders, and a line for each price point of mesh 4.
+#![tactic(auto)]
+
 ghost use Rattle.std.specs.Prelude.{◌≤◌, length, IfOk};
 
 use lines::{LineError, fault_line, good_line, point_line, traders_line};

@@ -1,4 +1,6 @@
 // Reads a market file and walks to a clearing cell, on mesh 4, 8 and 16.
+#![tactic(auto)]
+
 use cells::Triangulation;
 use input::fill;
 use labelling::Labelling;

@@ -1,4 +1,6 @@
 // Todd's triangulations K1 and J1.
+#![tactic(auto)]
+
 ghost use Rattle.todd.specs.Laws.{K1Lawful, J1Lawful};
 
 pub mod j1;

@@ -1,4 +1,6 @@
 // The laws of exchange that the label of a market rests on. Theory only: each function's contract is a theorem.
+#![tactic(auto)]
+
 ghost use Rattle.trade.specs.Trade.{ExcessesCancel, FreeGoodsNotInSurplus, LabelExists, LabelDetermined};
 
 // The excesses of all goods add up to nought.

@@ -1,4 +1,6 @@
 // Plays the cases of standard input, one to a line, and prints what the opening and every call answer.
+#![tactic(auto)]
+
 use crate::printing::{print_played, print_refusal};
 use crate::reading::{Opening, read_calls, read_market, read_opening, read_sheet};
 use cells::Triangulation;

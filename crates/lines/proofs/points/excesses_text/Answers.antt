@@ -8,4 +8,4 @@ use Rattle.lines.proofs.points.excesses_text.Goals as goal
 pub loop-j-preserved : goal.loop-j-preserved
 loop-j-preserved c =
     of-goods-more signed_decimal (excess c.args.market.now.numbers.sum (traders_of c.args.market.now) (prices_of c.args.point.now))
-    c.loop-j.j c.loop-j.invariant c.in-ok-push-excess.ensures
+    c.loop-j.j c.loop-j.invariant c.in_ok-push_excess.ensures

@@ -6,7 +6,7 @@ use Rattle.lines.proofs.points.prices_text.Goals as goal
 
 pub loop-price-preserved : goal.loop-price-preserved
 loop-price-preserved c =
-    spaced-more decimal c.args.prices.now c.loop-price.price-index 0 c.loop-price-test.true c.loop-price.invariant c.in-ok-push-price.ensures
+    spaced-more decimal c.args.prices.now c.loop-price.price-index 0 c.loop-price-test.true c.loop-price.invariant c.in_ok-push_price.ensures
 
 pub returns : goal.returns
 returns c = c.loop-price.invariant ∙ ap (spaced decimal) (take_all c.loop-price.price-index c.args.prices.now c.loop-price-test.false)

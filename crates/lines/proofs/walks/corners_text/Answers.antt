@@ -10,5 +10,5 @@ returns-in-empty c =
 
 pub returns-in-len1-up : goal.returns-in-len1-up
 returns-in-len1-up c =
-    subst (λ rows. IfOk c.some-corners.result (λ s. string_bytes s ≡ blocks (map (take c.args.goods) rows)))
-    (first-and-rest c.args.corners.now [] (omega (arith, ltb-false))) c.some-corners.ensures
+    subst (λ rows. IfOk c.some_corners.result (λ s. string_bytes s ≡ blocks (map (take c.args.goods) rows)))
+    (first-and-rest c.args.corners.now [] (omega (arith, ltb-false))) c.some_corners.ensures

@@ -4,10 +4,10 @@ use Rattle.market.proofs.Turns.{held_whole, reads_all}
 use Rattle.market.proofs.Finished.{end-tells, market-numbers, whole-market, unowned-fault}
 use Rattle.market.proofs.reader.read.Goals as goal
 
-pub returns-in-err-at : goal.returns-in-err-at
-returns-in-err-at c =
-    let p = err_from_is_err_and c.from-residual.result c.from-residual.ensures.1 in
-    rw (p.1, p.2) (reads_all c.args.file.now _ (inl c.in-err-at.ensures))
+pub returns-in_err-at : goal.returns-in_err-at
+returns-in_err-at c =
+    let p = err_from_is_err_and c.from_residual.result c.from_residual.ensures.1 in
+    rw (p.1, p.2) (reads_all c.args.file.now _ (inl c.in_err-at.ensures))
 
 pub with-market-requires : goal.with-market-requires
 with-market-requires c =

@@ -9,82 +9,82 @@ use Rattle.market.proofs.OneField.{arm-told, arm-refused, moved_on, halves, seco
 use Rattle.market.proofs.Turns.{field_told, goods-few, held-fault, field-within, held-goods, held-name, held-sum, trader-room, held-trader, trader-off}
 use Rattle.market.proofs.reader.read_one.Goals as goal
 
-pub returns-in-err-field : goal.returns-in-err-field
-returns-in-err-field c =
-    let p = err_from_is_err_and c.from-residual.result c.from-residual.ensures.1 in
+pub returns-in_err-field : goal.returns-in_err-field
+returns-in_err-field c =
+    let p = err_from_is_err_and c.from_residual.result c.from_residual.ensures.1 in
     let file = c.args.file.now in
     rw (p.1, p.2)
     (held-fault file c.args.at c.args.numbers.now c.requires.held c.requires.goes_on _
-    (arm-refused (due_of c.due.result) (due_in c.args.numbers.now) (drop c.args.at file) c.args.at _ c.in-err-field.ensures c.due.ensures))
+    (arm-refused (due_of c.due.result) (due_in c.args.numbers.now) (drop c.args.at file) c.args.at _ c.in_err-field.ensures c.due.ensures))
 
-pub overflow-add-end-2 : goal.overflow-add-end-2
-overflow-add-end-2 c =
+pub overflow_add-end-2 : goal.overflow_add-end-2
+overflow_add-end-2 c =
     let file = c.args.file.now in
-    let f = field_of c.in-ok-field.field in
-    let told = arm-told (due_of c.due.result) (due_in c.args.numbers.now) (drop c.args.at file) c.args.at c.in-ok-field.field c.in-ok-field.field c.in-ok-field.ensures c.due.ensures refl in
+    let f = field_of c.in_ok-field.field in
+    let told = arm-told (due_of c.due.result) (due_in c.args.numbers.now) (drop c.args.at file) c.args.at c.in_ok-field.field c.in_ok-field.field c.in_ok-field.ensures c.due.ensures refl in
     let inside = field-within file c.args.at c.args.numbers.now c.requires.held f.1 f.2 f.0 told in
     omega (arith, inside.1, ap length c.body.ensures)
 
-pub add-name-requires : goal.add-name-requires
-add-name-requires c = (search rules, search rules)
+pub add_name-requires : goal.add_name-requires
+add_name-requires c = (search rules, search rules)
 
 pub amounts-weighs-requires : goal.amounts-weighs-requires
 amounts-weighs-requires c =
     let file = c.args.file.now in
     let n = c.args.numbers.now in
     let body = c.in-Trader.body.now in
-    let told = arm-told (due_of c.due.result) (due_in n) (drop c.args.at file) c.args.at c.in-ok-field.field (Trader c.in-Trader.body c.in-Trader.place) c.in-ok-field.ensures c.due.ensures c.in-Trader.is in
+    let told = arm-told (due_of c.due.result) (due_in n) (drop c.args.at file) c.args.at c.in_ok-field.field (Trader c.in-Trader.body c.in-Trader.place) c.in_ok-field.ensures c.due.ensures c.in-Trader.is in
     let few = goods-few file c.args.at n c.requires.held in
     (few, second-half body n.goods (trader-room file c.args.at n c.requires.held body c.in-Trader.place told).1)
 
-pub returns-then-not-adds-up-to : goal.returns-then-not-adds-up-to
-returns-then-not-adds-up-to c =
+pub returns-then-not-adds_up_to : goal.returns-then-not-adds_up_to
+returns-then-not-adds_up_to c =
     let file = c.args.file.now in
     let n = c.args.numbers.now in
     let body = c.in-Trader.body.now in
-    let told = arm-told (due_of c.due.result) (due_in n) (drop c.args.at file) c.args.at c.in-ok-field.field (Trader c.in-Trader.body c.in-Trader.place) c.in-ok-field.ensures c.due.ensures c.in-Trader.is in
+    let told = arm-told (due_of c.due.result) (due_in n) (drop c.args.at file) c.args.at c.in_ok-field.field (Trader c.in-Trader.body c.in-Trader.place) c.in_ok-field.ensures c.due.ensures c.in-Trader.is in
     let few = goods-few file c.args.at n c.requires.held in
     let owns = c.amounts-owns.ensures in
     let weighs = c.amounts-weighs.ensures in
     let rows = halves body _ _ (2 * n.goods) owns.1.0 weighs.1.0 in
     trader-off file c.args.at n c.requires.held body c.in-Trader.place c.amounts-owns.result c.amounts-weighs.result rows (omega (arith, few, owns.0)) (omega (arith, few, weighs.0)) owns.1.1 weighs.1.1 told
-    (eqb-false _ _ (sym c.if-not-adds-up-to.ensures))
+    (eqb-false _ _ (sym c.if-not-adds_up_to.ensures))
 
 pub returns-in-Goods : goal.returns-in-Goods
 returns-in-Goods c =
     let file = c.args.file.now in
     let n = c.args.numbers.now in
-    let told = arm-told (due_of c.due.result) (due_in n) (drop c.args.at file) c.args.at c.in-ok-field.field (Goods c.in-Goods.body c.in-Goods.field-1) c.in-ok-field.ensures c.due.ensures c.in-Goods.is in
-    moved_on file c.args.at c.in-Goods.body.now c.body.result.now c.add-goods.new.self _ (c.body.ensures ∙ ap (λ f. (field_of f).1) c.in-Goods.is) c.add-goods.ensures
+    let told = arm-told (due_of c.due.result) (due_in n) (drop c.args.at file) c.args.at c.in_ok-field.field (Goods c.in-Goods.body c.in-Goods.field-1) c.in_ok-field.ensures c.due.ensures c.in-Goods.is in
+    moved_on file c.args.at c.in-Goods.body.now c.body.result.now c.add_goods.new.self _ (c.body.ensures ∙ ap (λ f. (field_of f).1) c.in-Goods.is) c.add_goods.ensures
     (held-goods file c.args.at n c.requires.held c.in-Goods.body.now c.in-Goods.field-1 told)
 
 pub returns-in-Name : goal.returns-in-Name
 returns-in-Name c =
     let file = c.args.file.now in
     let n = c.args.numbers.now in
-    let told = arm-told (due_of c.due.result) (due_in n) (drop c.args.at file) c.args.at c.in-ok-field.field (Name c.in-Name.body c.in-Name.place) c.in-ok-field.ensures c.due.ensures c.in-Name.is in
-    moved_on file c.args.at c.in-Name.body.now c.body.result.now c.add-name.new.self _ (c.body.ensures ∙ ap (λ f. (field_of f).1) c.in-Name.is) c.add-name.ensures
+    let told = arm-told (due_of c.due.result) (due_in n) (drop c.args.at file) c.args.at c.in_ok-field.field (Name c.in-Name.body c.in-Name.place) c.in_ok-field.ensures c.due.ensures c.in-Name.is in
+    moved_on file c.args.at c.in-Name.body.now c.body.result.now c.add_name.new.self _ (c.body.ensures ∙ ap (λ f. (field_of f).1) c.in-Name.is) c.add_name.ensures
     (held-name file c.args.at n c.requires.held c.in-Name.body.now c.in-Name.place told)
 
 pub returns-in-Sum : goal.returns-in-Sum
 returns-in-Sum c =
     let file = c.args.file.now in
     let n = c.args.numbers.now in
-    let told = arm-told (due_of c.due.result) (due_in n) (drop c.args.at file) c.args.at c.in-ok-field.field (Sum c.in-Sum.body c.in-Sum.field-1) c.in-ok-field.ensures c.due.ensures c.in-Sum.is in
+    let told = arm-told (due_of c.due.result) (due_in n) (drop c.args.at file) c.args.at c.in_ok-field.field (Sum c.in-Sum.body c.in-Sum.field-1) c.in_ok-field.ensures c.due.ensures c.in-Sum.is in
     let tells = field_told (due_in n) (drop c.args.at file) c.args.at 3 c.in-Sum.field-1 c.in-Sum.body.now told in
-    let low : get_or c.in-Sum.body.now 1 0 < 256 = rw tells.2 (body_bytes file c.args.at (length_of (drop c.args.at file)) 1 (λ i. omega (arith, c.type-inv.file i))) in
-    moved_on file c.args.at c.in-Sum.body.now c.body.result.now c.add-sum.new.self _ (c.body.ensures ∙ ap (λ f. (field_of f).1) c.in-Sum.is) c.add-sum.ensures
+    let low : get_or c.in-Sum.body.now 1 0 < 256 = rw tells.2 (body_bytes file c.args.at (length_of (drop c.args.at file)) 1 (λ i. omega (arith, c.type_inv.file i))) in
+    moved_on file c.args.at c.in-Sum.body.now c.body.result.now c.add_sum.new.self _ (c.body.ensures ∙ ap (λ f. (field_of f).1) c.in-Sum.is) c.add_sum.ensures
     (held-sum file c.args.at n c.requires.held c.in-Sum.body.now c.in-Sum.field-1 told low)
 
-pub returns-else-not-adds-up-to : goal.returns-else-not-adds-up-to
-returns-else-not-adds-up-to c =
+pub returns-else-not-adds_up_to : goal.returns-else-not-adds_up_to
+returns-else-not-adds_up_to c =
     let file = c.args.file.now in
     let n = c.args.numbers.now in
     let body = c.in-Trader.body.now in
-    let told = arm-told (due_of c.due.result) (due_in n) (drop c.args.at file) c.args.at c.in-ok-field.field (Trader c.in-Trader.body c.in-Trader.place) c.in-ok-field.ensures c.due.ensures c.in-Trader.is in
+    let told = arm-told (due_of c.due.result) (due_in n) (drop c.args.at file) c.args.at c.in_ok-field.field (Trader c.in-Trader.body c.in-Trader.place) c.in_ok-field.ensures c.due.ensures c.in-Trader.is in
     let few = goods-few file c.args.at n c.requires.held in
     let owns = c.amounts-owns.ensures in
     let weighs = c.amounts-weighs.ensures in
     let rows = halves body _ _ (2 * n.goods) owns.1.0 weighs.1.0 in
-    moved_on file c.args.at body c.body.result.now c.add-trader.new.self _ (c.body.ensures ∙ ap (λ f. (field_of f).1) c.in-Trader.is) c.add-trader.ensures
-    (held-trader file c.args.at n c.requires.held body c.in-Trader.place c.amounts-owns.result c.amounts-weighs.result rows (omega (arith, few, owns.0)) (omega (arith, few, weighs.0)) owns.1.1 weighs.1.1 told (eqb-true _ _ (sym c.if-not-adds-up-to.ensures)))
+    moved_on file c.args.at body c.body.result.now c.add_trader.new.self _ (c.body.ensures ∙ ap (λ f. (field_of f).1) c.in-Trader.is) c.add_trader.ensures
+    (held-trader file c.args.at n c.requires.held body c.in-Trader.place c.amounts-owns.result c.amounts-weighs.result rows (omega (arith, few, owns.0)) (omega (arith, few, weighs.0)) owns.1.1 weighs.1.1 told (eqb-true _ _ (sym c.if-not-adds_up_to.ensures)))

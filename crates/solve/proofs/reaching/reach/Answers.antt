@@ -19,7 +19,7 @@ returns-then-not-moved b c =
     record {
       reaches =
           last_turn b.T.Triangulation.meaning b.L.Labelling.rule _ _ _ _ c.loop-made.invariant.1 c.loop-made.invariant.2 c.loop-made.made _ _ _ c.step-answer.result
-          c.loop-made.invariant.0 c.step-answer.ensures.goes c.args.most c.loop-made-test.true (sym c.if-not-moved.ensures) c.ticket-of.result c.ticket-of.ensures;
+          c.loop-made.invariant.0 c.step-answer.ensures.goes c.args.most c.loop-made-test.true (sym c.if-not-moved.ensures) c.ticket_of.result c.ticket_of.ensures;
       borrows = (c.step-answer.ensures.borrows.0 ∙ c.loop-made.invariant.1, c.step-answer.ensures.borrows.1 ∙ c.loop-made.invariant.2);
     }
 

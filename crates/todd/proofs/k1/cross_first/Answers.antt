@@ -4,9 +4,9 @@ use Rattle.todd.proofs.k1.cross_first.Goals as goal
 
 pub returns-in-Some : goal.returns-in-Some
 returns-in-Some c cell =
-    first-wall c.args.grid.now c.args.cell.now cell c.goods-goods.result _ c.goods-goods.ensures c.stop-up-stop.result c.in-Some.wall refl c.stop-up-stop.ensures c.in-Some.is
+    first-wall c.args.grid.now c.args.cell.now cell c.goods-goods.result _ c.goods-goods.ensures c.stop_up-stop.result c.in-Some.wall refl c.stop_up-stop.ensures c.in-Some.is
 
 pub returns : goal.returns
 returns c cell =
-    first-moved c.args.grid.now c.args.cell.now cell c.goods-goods.result _ c.goods-goods.ensures c.stop-up-stop.result c.shift-level.new.levels c.turned-left-order.result refl
-    c.stop-up-stop.ensures c.in-default.is c.turned-left-order.ensures c.shift-level.ensures
+    first-moved c.args.grid.now c.args.cell.now cell c.goods-goods.result _ c.goods-goods.ensures c.stop_up-stop.result c.shift_level.new.levels c.turned_left-order.result refl
+    c.stop_up-stop.ensures c.in_default.is c.turned_left-order.ensures c.shift_level.ensures

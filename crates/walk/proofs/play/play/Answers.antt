@@ -4,7 +4,7 @@ use Rattle.walk.proofs.play.play.Goals as goal
 
 pub loop-i-init : goal.loop-i-init
 loop-i-init b c =
-    let made = c.in-ok-run.ensures in
+    let made = c.in_ok-run.ensures in
     (play-first _ _ _ _ made.came, made.borrows.0, made.borrows.1)
 
 pub loop-i-preserved : goal.loop-i-preserved

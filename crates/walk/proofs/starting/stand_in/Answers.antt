@@ -13,5 +13,5 @@ pub loop-i-preserved : goal.loop-i-preserved
 loop-i-preserved g c goods cell =
     let low : c.loop-i.i ≤ c.grid-grid.result.goods = omega arith in
     placed-more (g.T.Triangulation.meaning c.args.tri.now c.grid-grid.result.goods c.grid-grid.result.mesh) (view_of c.begin-state.result)
-    (shape_of c.grid-grid.result.goods c.args.cell.now) c.loop-i.i (view_of c.loop-i.state) (view_of c.place.new.self) c.in-ok-levels.levels goods
-    (c.loop-i.invariant goods cell) low c.place.ensures.placed (c.in-ok-levels.ensures.value low cell)
+    (shape_of c.grid-grid.result.goods c.args.cell.now) c.loop-i.i (view_of c.loop-i.state) (view_of c.place.new.self) c.in_ok-levels.levels goods
+    (c.loop-i.invariant goods cell) low c.place.ensures.placed (c.in_ok-levels.ensures.value low cell)

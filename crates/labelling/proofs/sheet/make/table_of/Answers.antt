@@ -11,7 +11,7 @@ pub loop-i-preserved : goal.loop-i-preserved
 loop-i-preserved c = (
   length-set c.loop-i.table c.loop-i.i _ ∙ c.loop-i.invariant.0,
   filled_more c.loop-i.table c.args.bytes.now c.loop-i.i 0 (omega arith) (omega arith) c.loop-i.invariant.1,
-  set-bytes c.loop-i.table c.loop-i.i _ c.loop-i.invariant.2 (omega (arith, c.type-inv.bytes c.loop-i.i)),
+  set-bytes c.loop-i.table c.loop-i.i _ c.loop-i.invariant.2 (omega (arith, c.type_inv.bytes c.loop-i.i)),
 )
 
 pub returns : goal.returns

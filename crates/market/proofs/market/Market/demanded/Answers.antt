@@ -18,8 +18,8 @@ share c =
     let small : c.from.result ≤ 65535 = omega arith in
     mul-le-mul small c.worth-income.ensures.small
 
-pub overflow-add-sum : goal.overflow-add-sum
-overflow-add-sum c = omega (arith, share c, c.args.self.now.some_traders.1)
+pub overflow_add-sum : goal.overflow_add-sum
+overflow_add-sum c = omega (arith, share c, c.args.self.now.some_traders.1)
 
 pub loop-a-preserved : goal.loop-a-preserved
 loop-a-preserved c =

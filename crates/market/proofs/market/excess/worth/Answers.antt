@@ -14,11 +14,11 @@ turn c =
 within : (c : goal.After-from-in-loop-k) → c.loop-k.income + c.from.result * c.from-in-loop-k.result ≤ 16384 * 65535
 within c = worth-within 65535 16384 c.args.prices.now (c.loop-k.k + 1) _ c.requires.1.0 (turn c)
 
-pub overflow-mul-income : goal.overflow-mul-income
-overflow-mul-income c = omega (arith, within c)
+pub overflow_mul-income : goal.overflow_mul-income
+overflow_mul-income c = omega (arith, within c)
 
-pub overflow-add-income : goal.overflow-add-income
-overflow-add-income c = omega (arith, within c)
+pub overflow_add-income : goal.overflow_add-income
+overflow_add-income c = omega (arith, within c)
 
 pub loop-k-preserved : goal.loop-k-preserved
 loop-k-preserved c =

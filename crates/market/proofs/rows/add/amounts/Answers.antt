@@ -9,9 +9,9 @@ use Rattle.market.proofs.rows.add.amounts.Goals as goal
 pub loop-good-preserved : goal.loop-good-preserved
 loop-good-preserved c = (
   length-set c.loop-good.of c.loop-good.good _ ∙ c.loop-good.invariant.0,
-  words_more c.loop-good.of c.args.body.now c.loop-good.good c.amount-at.result (omega (arith, c.requires.0, c.loop-good.invariant.0)) (omega (arith, c.requires.1))
-      (omega (arith, c.type-inv.body (2 * c.loop-good.good + 1))) c.amount-at.ensures c.loop-good.invariant.1,
-  short-more c.loop-good.of c.loop-good.good c.amount-at.result (omega (arith, c.requires.0, c.loop-good.invariant.0)) c.amount-at.type-inv c.loop-good.invariant.2,
+  words_more c.loop-good.of c.args.body.now c.loop-good.good c.amount_at.result (omega (arith, c.requires.0, c.loop-good.invariant.0)) (omega (arith, c.requires.1))
+      (omega (arith, c.type_inv.body (2 * c.loop-good.good + 1))) c.amount_at.ensures c.loop-good.invariant.1,
+  short-more c.loop-good.of c.loop-good.good c.amount_at.result (omega (arith, c.requires.0, c.loop-good.invariant.0)) c.amount_at.type_inv c.loop-good.invariant.2,
 )
 
 pub returns : goal.returns

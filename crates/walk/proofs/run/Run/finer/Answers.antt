@@ -7,42 +7,42 @@ use Rattle.walk.proofs.RefineShown.{refine-not-accepted, refine-no-mesh, refine-
 use Rattle.walk.proofs.Refining.{scaled-start, no-refusal, begins-there}
 use Rattle.walk.proofs.run.Run.finer.Goals as goal
 
-pub returns-in-err-dropped : goal.returns-in-err-dropped
-returns-in-err-dropped b c = λ o calls came.
+pub returns-in_err-dropped : goal.returns-in_err-dropped
+returns-in_err-dropped b c = λ o calls came.
     let s = c.args.self.now.state in
-    let p = err_from_is_err_and c.from-residual.result c.from-residual.ensures.1 in
+    let p = err_from_is_err_and c.from_residual.result c.from_residual.ensures.1 in
     rw (p.1, p.2)
     (refine-not-accepted _ _ o (b.met.T.Triangulation.lawful c.args.self.now.tri.now) calls came.path came.leads _ _ c.args.factor (view_of s) came.shows _
-    (sym c.in-err-dropped.ensures) s refl)
+    (sym c.in_err-dropped.ensures) s refl)
 
-pub returns-in-err-mesh : goal.returns-in-err-mesh
-returns-in-err-mesh b c = λ o calls came.
+pub returns-in_err-mesh : goal.returns-in_err-mesh
+returns-in_err-mesh b c = λ o calls came.
     let s = c.args.self.now.state in
-    let p = err_from_is_err_and c.from-residual-in-err-mesh.result c.from-residual-in-err-mesh.ensures.1 in
+    let p = err_from_is_err_and c.from_residual-in_err-mesh.result c.from_residual-in_err-mesh.ensures.1 in
     let same : finer_mesh (goods_of s) s.start.grid.mesh c.args.factor ≡ finer_mesh c.goods-goods.result c.mesh.result c.args.factor
     = ap (λ g. finer_mesh g s.start.grid.mesh c.args.factor) (sym c.goods-goods.ensures) ∙ ap (λ D. finer_mesh c.goods-goods.result D c.args.factor) (sym c.mesh.ensures) in
     rw (p.1, p.2)
-    (refine-no-mesh _ _ o (b.met.T.Triangulation.lawful c.args.self.now.tri.now) calls came.path came.leads _ _ c.args.factor (view_of s) came.shows c.in-ok-dropped.dropped
-    (sym c.in-ok-dropped.ensures) _ (same ∙ sym c.in-err-mesh.ensures) s refl)
+    (refine-no-mesh _ _ o (b.met.T.Triangulation.lawful c.args.self.now.tri.now) calls came.path came.leads _ _ c.args.factor (view_of s) came.shows c.in_ok-dropped.dropped
+    (sym c.in_ok-dropped.ensures) _ (same ∙ sym c.in_err-mesh.ensures) s refl)
 
-pub returns-in-default : goal.returns-in-default
-returns-in-default b c = λ o calls came.
+pub returns-in_default : goal.returns-in_default
+returns-in_default b c = λ o calls came.
     let s = c.args.self.now.state in
-    absurd (refine-none _ _ o (b.met.T.Triangulation.lawful c.args.self.now.tri.now) calls came.path came.leads _ _ c.args.factor (view_of s) came.shows c.in-ok-dropped.dropped
-    (sym c.in-ok-dropped.ensures) c.in-default.ensures)
+    absurd (refine-none _ _ o (b.met.T.Triangulation.lawful c.args.self.now.tri.now) calls came.path came.leads _ _ c.args.factor (view_of s) came.shows c.in_ok-dropped.dropped
+    (sym c.in_ok-dropped.ensures) c.in_default.ensures)
 
-pub returns-in-err-point : goal.returns-in-err-point
-returns-in-err-point b c = λ o calls came.
+pub returns-in_err-point : goal.returns-in_err-point
+returns-in_err-point b c = λ o calls came.
     let s = c.args.self.now.state in
     let law = b.met.T.Triangulation.lawful c.args.self.now.tri.now in
     let same : finer_mesh (goods_of s) s.start.grid.mesh c.args.factor ≡ finer_mesh c.goods-goods.result c.mesh.result c.args.factor
     = ap (λ g. finer_mesh g s.start.grid.mesh c.args.factor) (sym c.goods-goods.ensures) ∙ ap (λ D. finer_mesh c.goods-goods.result D c.args.factor) (sym c.mesh.ensures) in
-    let finer = same ∙ sym c.in-ok-mesh.ensures in
-    let start = scaled-start _ _ o law calls came.path came.leads _ _ c.args.factor (view_of s) came.shows c.in-ok-dropped.dropped (sym c.in-ok-dropped.ensures)
-    c.in-ok-mesh.mesh finer c.in-Some.prices c.in-Some.ensures c.scaled-start.result c.goods-goods.result c.goods-goods.ensures s.start.grid.goods_fit.1 c.scaled-start.ensures in
-    absurd (no-refusal _ _ o law calls came.path came.leads _ _ c.args.factor (view_of s) came.shows c.in-ok-dropped.dropped (sym c.in-ok-dropped.ensures)
-    c.in-ok-mesh.mesh finer c.in-Some.prices c.in-Some.ensures _ start _
-    (c.in-err-point.ensures ∙ ap (λ g. point_for g c.in-ok-mesh.mesh (take (c.goods-goods.result - 0) c.scaled-start.result)) c.goods-goods.ensures))
+    let finer = same ∙ sym c.in_ok-mesh.ensures in
+    let start = scaled-start _ _ o law calls came.path came.leads _ _ c.args.factor (view_of s) came.shows c.in_ok-dropped.dropped (sym c.in_ok-dropped.ensures)
+    c.in_ok-mesh.mesh finer c.in-Some.prices c.in-Some.ensures c.scaled-start.result c.goods-goods.result c.goods-goods.ensures s.start.grid.goods_fit.1 c.scaled-start.ensures in
+    absurd (no-refusal _ _ o law calls came.path came.leads _ _ c.args.factor (view_of s) came.shows c.in_ok-dropped.dropped (sym c.in_ok-dropped.ensures)
+    c.in_ok-mesh.mesh finer c.in-Some.prices c.in-Some.ensures _ start _
+    (c.in_err-point.ensures ∙ ap (λ g. point_for g c.in_ok-mesh.mesh (take (c.goods-goods.result - 0) c.scaled-start.result)) c.goods-goods.ensures))
 
 pub returns : goal.returns
 returns b c = λ o calls came.
@@ -50,9 +50,9 @@ returns b c = λ o calls came.
     let law = b.met.T.Triangulation.lawful c.args.self.now.tri.now in
     let same : finer_mesh (goods_of s) s.start.grid.mesh c.args.factor ≡ finer_mesh c.goods-goods.result c.mesh.result c.args.factor
     = ap (λ g. finer_mesh g s.start.grid.mesh c.args.factor) (sym c.goods-goods.ensures) ∙ ap (λ D. finer_mesh c.goods-goods.result D c.args.factor) (sym c.mesh.ensures) in
-    let finer = same ∙ sym c.in-ok-mesh.ensures in
-    let start = scaled-start _ _ o law calls came.path came.leads _ _ c.args.factor (view_of s) came.shows c.in-ok-dropped.dropped (sym c.in-ok-dropped.ensures)
-    c.in-ok-mesh.mesh finer c.in-Some.prices c.in-Some.ensures c.scaled-start.result c.goods-goods.result c.goods-goods.ensures s.start.grid.goods_fit.1 c.scaled-start.ensures in
-    begins-there _ _ o law calls came.path came.leads _ _ c.args.factor (view_of s) came.shows c.in-ok-dropped.dropped (sym c.in-ok-dropped.ensures)
-    c.in-ok-mesh.mesh finer c.in-Some.prices c.in-Some.ensures _ start (point_of c.in-ok-point.point)
-    (c.in-ok-point.ensures ∙ ap (λ g. point_for g c.in-ok-mesh.mesh (take (c.goods-goods.result - 0) c.scaled-start.result)) c.goods-goods.ensures) s refl c.stand.result c.stand.ensures
+    let finer = same ∙ sym c.in_ok-mesh.ensures in
+    let start = scaled-start _ _ o law calls came.path came.leads _ _ c.args.factor (view_of s) came.shows c.in_ok-dropped.dropped (sym c.in_ok-dropped.ensures)
+    c.in_ok-mesh.mesh finer c.in-Some.prices c.in-Some.ensures c.scaled-start.result c.goods-goods.result c.goods-goods.ensures s.start.grid.goods_fit.1 c.scaled-start.ensures in
+    begins-there _ _ o law calls came.path came.leads _ _ c.args.factor (view_of s) came.shows c.in_ok-dropped.dropped (sym c.in_ok-dropped.ensures)
+    c.in_ok-mesh.mesh finer c.in-Some.prices c.in-Some.ensures _ start (point_of c.in_ok-point.point)
+    (c.in_ok-point.ensures ∙ ap (λ g. point_for g c.in_ok-mesh.mesh (take (c.goods-goods.result - 0) c.scaled-start.result)) c.goods-goods.ensures) s refl c.stand.result c.stand.ensures

@@ -8,6 +8,6 @@ pub returns : goal.returns
 returns b c =
     let start = c.args.self.now.state.start in
     subst
-    (λ u. Corner (goods_of start) (mesh_of start) u → c.label-of.result ≡ label (goods_of start) (mesh_of start) (b.L.Labelling.rule c.args.self.now.labels.now) (prices_of start) u)
-    (let same : c.goods-goods.result - 0 ≡ goods_of start = omega (arith, c.goods-goods.ensures) in ap (λ n. take n c.newest-levels-levels.result) same ∙ c.newest-levels-levels.ensures)
-    c.label-of.ensures
+    (λ u. Corner (goods_of start) (mesh_of start) u → c.label_of.result ≡ label (goods_of start) (mesh_of start) (b.L.Labelling.rule c.args.self.now.labels.now) (prices_of start) u)
+    (let same : c.goods-goods.result - 0 ≡ goods_of start = omega (arith, c.goods-goods.ensures) in ap (λ n. take n c.newest_levels-levels.result) same ∙ c.newest_levels-levels.ensures)
+    c.label_of.ensures

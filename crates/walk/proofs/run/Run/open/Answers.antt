@@ -6,6 +6,6 @@ use Rattle.walk.proofs.run.Run.open.Goals as goal
 pub returns : goal.returns
 returns b c =
     let stands = open-stands _ (b.L.Labelling.rule c.args.labels.now) (record { number = c.args.number; goods = c.args.goods; mesh = c.args.mesh; start = c.args.start.now })
-    (b.met.T.Triangulation.lawful c.args.tri.now) (point_of c.in-ok-point.point) (sym c.in-ok-point.ensures) (Ok c.in-ok-state.state)
-    c.in-ok-state.ensures in
+    (b.met.T.Triangulation.lawful c.args.tri.now) (point_of c.in_ok-point.point) (sym c.in_ok-point.ensures) (Ok c.in_ok-state.state)
+    c.in_ok-state.ensures in
     record { answer = stands.0; came = stands.1; claim = stands.2; borrows = (refl, refl) }

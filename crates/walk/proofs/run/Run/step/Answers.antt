@@ -14,15 +14,15 @@ returns-then-not-walks b c =
       borrows = (refl, refl);
     }
 
-pub returns-then-not-is-proper : goal.returns-then-not-is-proper
-returns-then-not-is-proper b c =
+pub returns-then-not-is_proper : goal.returns-then-not-is_proper
+returns-then-not-is_proper b c =
     let v = view_of c.args.self.now.state in
     record {
       goes = λ o calls came.
           let law = b.met.T.Triangulation.lawful c.args.self.now.tri.now in
-          halts_by _ _ o law calls came.path came.leads v came.shows (sym c.walks.ensures ∙ c.if-not-walks.false) c.newest-label-label.result
-          (c.newest-label-label.ensures (newest-corner _ _ o law calls came.path came.leads v came.shows))
-          (sym c.is-proper.ensures ∙ c.if-not-is-proper.true) _ c.halt-prices.ensures.prices c.halt-prices.new.self c.halt-prices.ensures.view;
+          halts_by _ _ o law calls came.path came.leads v came.shows (sym c.walks.ensures ∙ c.if-not-walks.false) c.newest_label-label.result
+          (c.newest_label-label.ensures (newest-corner _ _ o law calls came.path came.leads v came.shows))
+          (sym c.is_proper.ensures ∙ c.if-not-is_proper.true) _ c.halt-prices.ensures.prices c.halt-prices.new.self c.halt-prices.ensures.view;
       kept = tt;
       borrows = (refl, refl);
     }
@@ -33,9 +33,9 @@ returns-in-Some b c =
     record {
       goes = λ o calls came.
           let law = b.met.T.Triangulation.lawful c.args.self.now.tri.now in
-          crosses-by _ _ o law calls came.path came.leads v came.shows (sym c.walks.ensures ∙ c.if-not-walks.false) c.newest-label-label.result
-          (c.newest-label-label.ensures (newest-corner _ _ o law calls came.path came.leads v came.shows))
-          (sym c.is-proper.ensures ∙ c.if-not-is-proper.false) c.in-Some.dropped c.in-Some.ensures _ c.cross.new.self.state
+          crosses-by _ _ o law calls came.path came.leads v came.shows (sym c.walks.ensures ∙ c.if-not-walks.false) c.newest_label-label.result
+          (c.newest_label-label.ensures (newest-corner _ _ o law calls came.path came.leads v came.shows))
+          (sym c.is_proper.ensures ∙ c.if-not-is_proper.false) c.in-Some.dropped c.in-Some.ensures _ c.cross.new.self.state
           (c.cross.ensures.crossed c.in-Some.ensures.0 (cell-there _ _ o law calls came.path came.leads v came.shows));
       kept = c.cross.ensures.kept;
       borrows = c.cross.ensures.borrows;
@@ -47,9 +47,9 @@ returns-in-None b c =
     record {
       goes = λ o calls came.
           let law = b.met.T.Triangulation.lawful c.args.self.now.tri.now in
-          absurd (none-by _ _ o law calls came.path came.leads v came.shows (sym c.walks.ensures ∙ c.if-not-walks.false) c.newest-label-label.result
-          (c.newest-label-label.ensures (newest-corner _ _ o law calls came.path came.leads v came.shows))
-          (sym c.is-proper.ensures ∙ c.if-not-is-proper.false) c.in-None.ensures);
+          absurd (none-by _ _ o law calls came.path came.leads v came.shows (sym c.walks.ensures ∙ c.if-not-walks.false) c.newest_label-label.result
+          (c.newest_label-label.ensures (newest-corner _ _ o law calls came.path came.leads v came.shows))
+          (sym c.is_proper.ensures ∙ c.if-not-is_proper.false) c.in-None.ensures);
       kept = refl;
       borrows = (refl, refl);
     }
