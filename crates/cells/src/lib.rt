@@ -46,7 +46,7 @@ pub fn addresses_bounded() -> bool
 
 // No mesh of a triangulation has more than (D + 1)^g - D^g cells.
 pub fn cells_bounded<T: Triangulation>(tri: &T) -> bool
-    ensures { (g D : ℕ) → 2 ≤ g → 1 ≤ D → CellsBounded (meaning tri.now g D) }
+    ensures { (g D : ℕ) → 2 ≤ g → 1 ≤ D → CellsBounded (T.meaning tri.now g D) }
 {
     true
 }

@@ -12,14 +12,14 @@ use labelling::Labelling;
 
 // What is claimed holds of the path of every opening and every list of calls, for any triangulation and any labelling.
 pub fn claimed<T: Triangulation, L: Labelling>(tri: &T, labels: &L) -> bool
-    ensures { (o : Opening) (calls : List Call) (p : Path) → Leads (meaning tri.now) (rule labels.now) o calls p → Claim (meaning tri.now) (rule labels.now) o p }
+    ensures { (o : Opening) (calls : List Call) (p : Path) → Leads (T.meaning tri.now) (L.rule labels.now) o calls p → Claim (T.meaning tri.now) (L.rule labels.now) o p }
 {
     true
 }
 
 // The same opening with the same calls has one path.
 pub fn determined<T: Triangulation, L: Labelling>(tri: &T, labels: &L) -> bool
-    ensures { (o : Opening) (calls : List Call) (p q : Path) → Leads (meaning tri.now) (rule labels.now) o calls p → Leads (meaning tri.now) (rule labels.now) o calls q → p ≡ q }
+    ensures { (o : Opening) (calls : List Call) (p q : Path) → Leads (T.meaning tri.now) (L.rule labels.now) o calls p → Leads (T.meaning tri.now) (L.rule labels.now) o calls q → p ≡ q }
 {
     true
 }

@@ -34,7 +34,7 @@ pub(crate) fn reach<T: Triangulation, L: Labelling>(
     run: &mut Run<T, L>,
     most: u32,
 ) -> Option<Ticket>
-    ensures reaches { (o : Opening) (calls : List Call) → Came (meaning run.old.tri.now) (rule run.old.labels.now) o calls run.old.state → Reaches (meaning run.old.tri.now) (rule run.old.labels.now) o calls most result run.new.state }
+    ensures reaches { (o : Opening) (calls : List Call) → Came (T.meaning run.old.tri.now) (L.rule run.old.labels.now) o calls run.old.state → Reaches (T.meaning run.old.tri.now) (L.rule run.old.labels.now) o calls most result run.new.state }
     ensures borrows { (run.new.tri.now ≡ run.old.tri.now) × (run.new.labels.now ≡ run.old.labels.now) }
 {
     for made in 0..most {

@@ -71,7 +71,7 @@ fn said_of_refined(answer: Result<(), (Refusal, Ticket)>) -> Said
 
 // One call, with its arguments.
 fn make<T: Triangulation, L: Labelling>(run: &mut Run<T, L>, call: Call) -> Said
-    ensures goes { (o : Opening) (calls : List PathCall) → Came (meaning run.old.tri.now) (rule run.old.labels.now) o calls run.old.state → Goes (meaning run.old.tri.now) (rule run.old.labels.now) o calls (call_of call) (said_of (goods_of run.old.state) result) run.new.state }
+    ensures goes { (o : Opening) (calls : List PathCall) → Came (T.meaning run.old.tri.now) (L.rule run.old.labels.now) o calls run.old.state → Goes (T.meaning run.old.tri.now) (L.rule run.old.labels.now) o calls (call_of call) (said_of (goods_of run.old.state) result) run.new.state }
     ensures borrows { (run.new.tri.now ≡ run.old.tri.now) × (run.new.labels.now ≡ run.old.labels.now) }
 {
     match call {
@@ -94,7 +94,7 @@ pub fn play<'a, T: Triangulation, L: Labelling>(
     labels: &'a L,
     calls: &[Call],
 ) -> Result<Played, Refusal>
-    ensures { PlayAnswer (meaning tri.now) (rule labels.now) (record { number = number; goods = goods; mesh = mesh; start = start.now }) (reverse (map call_of calls.now)) result }
+    ensures { PlayAnswer (T.meaning tri.now) (L.rule labels.now) (record { number = number; goods = goods; mesh = mesh; start = start.now }) (reverse (map call_of calls.now)) result }
 {
     let mut run = Run::open(number, goods, mesh, start, tri, labels)?;
     let mut last = Said::Began;

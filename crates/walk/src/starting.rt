@@ -33,7 +33,7 @@ fn stand_in<T: Triangulation>(
     point: PricePoint,
     cell: &Cell,
 ) -> Result<State, Refusal>
-    ensures { before < 18446744073709551615 → (meaning tri.now (goods_of point) (mesh_of point)).admitted (prices_of point) ≡ true → shape_of (goods_of point) cell.now ≡ (meaning tri.now (goods_of point) (mesh_of point)).start (prices_of point) → answered view_of result ≡ Ok (fresh (meaning tri.now (goods_of point) (mesh_of point)) number (suc before) (prices_of point)) }
+    ensures { before < 18446744073709551615 → (T.meaning tri.now (goods_of point) (mesh_of point)).admitted (prices_of point) ≡ true → shape_of (goods_of point) cell.now ≡ (T.meaning tri.now (goods_of point) (mesh_of point)).start (prices_of point) → answered view_of result ≡ Ok (fresh (T.meaning tri.now (goods_of point) (mesh_of point)) number (suc before) (prices_of point)) }
 {
     let grid = point.grid();
     let mut state = State::begin(number, before, point, *cell);
@@ -51,7 +51,7 @@ pub(crate) fn stand<T: Triangulation>(
     before: u64,
     point: PricePoint,
 ) -> Result<State, Refusal>
-    ensures { before < 18446744073709551615 → answered view_of result ≡ insist ((meaning tri.now (goods_of point) (mesh_of point)).admitted (prices_of point)) 4 (Ok (fresh (meaning tri.now (goods_of point) (mesh_of point)) number (suc before) (prices_of point))) }
+    ensures { before < 18446744073709551615 → answered view_of result ≡ insist ((T.meaning tri.now (goods_of point) (mesh_of point)).admitted (prices_of point)) 4 (Ok (fresh (T.meaning tri.now (goods_of point) (mesh_of point)) number (suc before) (prices_of point))) }
 {
     let cell = tri.start(&point)?;
     stand_in(tri, number, before, point, &cell)
@@ -66,7 +66,7 @@ fn real_point(start: &PricePoint, levels: &[u32]) -> Option<PricePoint>
 
 // The label of a corner for a start point: its outer label, or the labelling's where it is real.
 pub(crate) fn label_of<L: Labelling>(labels: &L, start: &PricePoint, levels: &[u32]) -> u8
-    ensures { Corner (goods_of start.now) (mesh_of start.now) levels.now → result ≡ label (goods_of start.now) (mesh_of start.now) (rule labels.now) (prices_of start.now) levels.now }
+    ensures { Corner (goods_of start.now) (mesh_of start.now) levels.now → result ≡ label (goods_of start.now) (mesh_of start.now) (L.rule labels.now) (prices_of start.now) levels.now }
 {
     match real_point(start, levels) {
         Some(point) => labels.label(&point),

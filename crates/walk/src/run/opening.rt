@@ -18,7 +18,7 @@ use state::record::State;
 
 // The record of a run that has entered no cell before.
 fn first<T: Triangulation>(tri: &T, number: u16, point: PricePoint) -> Result<State, Refusal>
-    ensures { answered view_of result ≡ insist ((meaning tri.now (goods_of point) (mesh_of point)).admitted (prices_of point)) 4 (Ok (fresh (meaning tri.now (goods_of point) (mesh_of point)) number 1 (prices_of point))) }
+    ensures { answered view_of result ≡ insist ((T.meaning tri.now (goods_of point) (mesh_of point)).admitted (prices_of point)) 4 (Ok (fresh (T.meaning tri.now (goods_of point) (mesh_of point)) number 1 (prices_of point))) }
 {
     stand(tri, number, 0, point)
 }
@@ -33,9 +33,9 @@ impl<'a, T: Triangulation, L: Labelling> Run<'a, T, L> {
         tri: &'a T,
         labels: &'a L,
     ) -> Result<Run<'a, T, L>, Refusal>
-        ensures answer { answered (λ run. view_of run.state) result ≡ opened (meaning tri.now) (rule labels.now) (record { number = number; goods = goods; mesh = mesh; start = start.now }) }
-        ensures came { IfOk result (λ run. Came (meaning tri.now) (rule labels.now) (record { number = number; goods = goods; mesh = mesh; start = start.now }) [] run.state) }
-        ensures claim { IfOk result (λ run. Claim (meaning tri.now) (rule labels.now) (record { number = number; goods = goods; mesh = mesh; start = start.now }) (opening (meaning tri.now) (rule labels.now) (record { number = number; goods = goods; mesh = mesh; start = start.now }))) }
+        ensures answer { answered (λ run. view_of run.state) result ≡ opened (T.meaning tri.now) (L.rule labels.now) (record { number = number; goods = goods; mesh = mesh; start = start.now }) }
+        ensures came { IfOk result (λ run. Came (T.meaning tri.now) (L.rule labels.now) (record { number = number; goods = goods; mesh = mesh; start = start.now }) [] run.state) }
+        ensures claim { IfOk result (λ run. Claim (T.meaning tri.now) (L.rule labels.now) (record { number = number; goods = goods; mesh = mesh; start = start.now }) (opening (T.meaning tri.now) (L.rule labels.now) (record { number = number; goods = goods; mesh = mesh; start = start.now }))) }
         ensures borrows { IfOk result (λ run. (run.tri.now ≡ tri.now) × (run.labels.now ≡ labels.now)) }
     {
         let point = PricePoint::new(goods, mesh, start)?;

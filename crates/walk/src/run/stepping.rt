@@ -35,7 +35,7 @@ fn is_no_wall(code: u8) -> bool
 impl<'a, T: Triangulation, L: Labelling> Run<'a, T, L> {
     // One step. Refuses a run that is not walking.
     pub fn step(&mut self) -> Result<Progress, Refusal>
-        ensures goes { (o : Opening) (calls : List Call) → Came (meaning self.old.tri.now) (rule self.old.labels.now) o calls self.old.state → Goes (meaning self.old.tri.now) (rule self.old.labels.now) o calls step (stepped (goods_of self.old.state) result) self.new.state }
+        ensures goes { (o : Opening) (calls : List Call) → Came (T.meaning self.old.tri.now) (L.rule self.old.labels.now) o calls self.old.state → Goes (T.meaning self.old.tri.now) (L.rule self.old.labels.now) o calls step (stepped (goods_of self.old.state) result) self.new.state }
         ensures kept { WhenRefused result (self.new.state ≡ self.old.state) }
         ensures borrows { (self.new.tri.now ≡ self.old.tri.now) × (self.new.labels.now ≡ self.old.labels.now) }
     {
@@ -55,7 +55,7 @@ impl<'a, T: Triangulation, L: Labelling> Run<'a, T, L> {
 
     // The label that the newest corner gets.
     fn newest_label(&self) -> u8
-        ensures { Corner (goods_of self.now.state) self.now.state.start.grid.mesh (levels_at (view_of self.now.state) self.now.state.newest) → result ≡ label (goods_of self.now.state) self.now.state.start.grid.mesh (rule self.now.labels.now) (prices_of self.now.state.start) (levels_at (view_of self.now.state) self.now.state.newest) }
+        ensures { Corner (goods_of self.now.state) self.now.state.start.grid.mesh (levels_at (view_of self.now.state) self.now.state.newest) → result ≡ label (goods_of self.now.state) self.now.state.start.grid.mesh (L.rule self.now.labels.now) (prices_of self.now.state.start) (levels_at (view_of self.now.state) self.now.state.newest) }
     {
         let levels = self.state.newest_levels();
         let goods = self.state.start.goods();
@@ -64,7 +64,7 @@ impl<'a, T: Triangulation, L: Labelling> Run<'a, T, L> {
 
     // Drops a corner, and goes where the way across it leads.
     fn cross(&mut self, dropped: usize, label: u8) -> Result<Progress, Refusal>
-        ensures crossed { dropped ≤ goods_of self.old.state → (meaning self.old.tri.now (goods_of self.old.state) self.old.state.start.grid.mesh).is_cell (shape_of (goods_of self.old.state) self.old.state.cell) → (stepped (goods_of self.old.state) result, view_of self.new.state) ≡ crossed (meaning self.old.tri.now (goods_of self.old.state) self.old.state.start.grid.mesh) (view_of self.old.state) dropped label ((meaning self.old.tri.now (goods_of self.old.state) self.old.state.start.grid.mesh).across (shape_of (goods_of self.old.state) self.old.state.cell) dropped) }
+        ensures crossed { dropped ≤ goods_of self.old.state → (T.meaning self.old.tri.now (goods_of self.old.state) self.old.state.start.grid.mesh).is_cell (shape_of (goods_of self.old.state) self.old.state.cell) → (stepped (goods_of self.old.state) result, view_of self.new.state) ≡ crossed (T.meaning self.old.tri.now (goods_of self.old.state) self.old.state.start.grid.mesh) (view_of self.old.state) dropped label ((T.meaning self.old.tri.now (goods_of self.old.state) self.old.state.start.grid.mesh).across (shape_of (goods_of self.old.state) self.old.state.cell) dropped) }
         ensures kept { WhenRefused result (self.new.state ≡ self.old.state) }
         ensures borrows { (self.new.tri.now ≡ self.old.tri.now) × (self.new.labels.now ≡ self.old.labels.now) }
     {
@@ -102,7 +102,7 @@ impl<'a, T: Triangulation, L: Labelling> Run<'a, T, L> {
         place: usize,
         label: u8,
     ) -> Result<Progress, Refusal>
-        ensures entered { place ≤ goods_of self.old.state → (meaning self.old.tri.now (goods_of self.old.state) self.old.state.start.grid.mesh).is_cell (shape_of (goods_of self.old.state) cell.now) → (stepped (goods_of self.old.state) result, view_of self.new.state) ≡ crossed (meaning self.old.tri.now (goods_of self.old.state) self.old.state.start.grid.mesh) (view_of self.old.state) dropped label (moved (shape_of (goods_of self.old.state) cell.now) place) }
+        ensures entered { place ≤ goods_of self.old.state → (T.meaning self.old.tri.now (goods_of self.old.state) self.old.state.start.grid.mesh).is_cell (shape_of (goods_of self.old.state) cell.now) → (stepped (goods_of self.old.state) result, view_of self.new.state) ≡ crossed (T.meaning self.old.tri.now (goods_of self.old.state) self.old.state.start.grid.mesh) (view_of self.old.state) dropped label (moved (shape_of (goods_of self.old.state) cell.now) place) }
         ensures kept { WhenRefused result (self.new.state ≡ self.old.state) }
         ensures borrows { (self.new.tri.now ≡ self.old.tri.now) × (self.new.labels.now ≡ self.old.labels.now) }
     {
