@@ -3,7 +3,7 @@
 --   Wall, On      the outer wall, the real wall, the wall of a good; a corner lies on one
 --   outer_label    the label of an outer corner for a start point
 --   skip          the places of a cell without one of them
-use Rattle.std.specs.Prelude.{◌≡◌, ℕ, zero, suc, ◌<◌, ◌≤◌, Bool, cond, ◌⊎◌, List, [], ◌∷◌, length, nat_lt}
+use Rattle.std.specs.Prelude.{◌≡◌, ℕ, suc, ◌<◌, ◌≤◌, cond, ◌⊎◌, List, [], ◌∷◌, length, nat_lt}
 use Rattle.mesh.specs.Prices.{price, first, Falls, to_prices}
 
 -- A corner of g goods and mesh D: g levels that fall from D or from D + 1.

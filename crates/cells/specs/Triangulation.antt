@@ -5,7 +5,7 @@
 --   Lawful       the laws
 use Rattle.std.specs.Prelude.{◌≡◌, ℕ, suc, ◌%◌, ◌<◌, ◌≤◌, Bool, T, List, length, sum, slice_index}
 use Rattle.std.specs.List.{AllByRecursion as All}
-use Rattle.mesh.specs.Prices.{first, to_levels}
+use Rattle.mesh.specs.Prices.{to_levels}
 use Rattle.cells.specs.Corners.{Corner, Wall, outer_wall, IsWall, On, outer_label, skip, Apart}
 
 -- A base of g levels, an order of the levels 1 to g, and a direction for each level (true: up).

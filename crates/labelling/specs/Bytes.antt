@@ -1,8 +1,6 @@
 -- Tables of bytes, and what is read from a sheet.
-use Rattle.std.specs.Prelude.{◌≡◌, ℕ, zero, suc, ◌+◌, ◌<◌, ◌≤◌, Bool, true, false, cond, ◌&&◌, ◌≢◌, List, [], ◌∷◌, length, take, replicate, slice_index, slice_set, refl}
-use Rattle.std.proofs.Common.{sym, ◌∙◌, ap, inl, inr, arith}
-use Rattle.std.proofs.lemmas.List.{get_or-set_same, get_or-set_other, get_or-take, get_or_past, length-set, length-take, set_past}
-use Rattle.std.proofs.lemmas.Bool.{cases_eq, cases_lt, eq-eqb, and_from, cond_both}
+use Rattle.std.specs.Prelude.{ℕ, zero, suc, ◌≤◌, List, [], ◌∷◌, take, replicate, slice_index, slice_set}
+use Rattle.std.proofs.Common.{arith}
 
 abbrev pub Bytes : List ℕ → Type 0
 Bytes xs = (i : ℕ) → slice_index xs i ≤ 255

@@ -3,7 +3,7 @@
 --   due           which field is due after them
 --   flaw          the first check that the bytes after them fail, by its number
 --   Fault         the refusal that a byte string gets: its number, and the place or the good that it carries
-use Rattle.std.specs.Prelude.{◌≡◌, ℕ, suc, ◌+◌, ◌*◌, ◌<◌, ◌≤◌, Bool, true, false, cond, ◌&&◌, ◌⊎◌, List, [], ◌∷◌, ◌++◌, length, take, drop, sum, ◌==◌, nat_le, nat_lt, slice_index}
+use Rattle.std.specs.Prelude.{◌≡◌, ℕ, ◌+◌, ◌*◌, ◌<◌, ◌≤◌, Bool, true, false, cond, ◌&&◌, ◌⊎◌, List, [], ◌∷◌, ◌++◌, length, take, drop, sum, ◌==◌, nat_le, nat_lt, slice_index}
 use Rattle.std.specs.List.{flat_map, AllByRecursion as All}
 use Rattle.mesh.specs.Refusals.{Told}
 use Rattle.mesh.specs.Range.{between, fit_goods}

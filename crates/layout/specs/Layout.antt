@@ -5,7 +5,7 @@
 --   WellFormed       every value is in its range, and each trader's weights add up
 --   Valid            well formed, and every good is owned by somebody
 -- A file is a list of bytes.
-use Rattle.std.specs.Prelude.{◌≡◌, ℕ, ◌/◌, ◌%◌, ◌<◌, ◌≤◌, Bool, true, false, ◌&&◌, List, [], ◌∷◌, ◌++◌, length}
+use Rattle.std.specs.Prelude.{◌≡◌, ℕ, ◌/◌, ◌%◌, ◌<◌, ◌≤◌, Bool, true, List, [], ◌∷◌, ◌++◌, length}
 use Rattle.std.specs.List.{flat_map, AllByRecursion as All}
 use Rattle.mesh.specs.Range.{between, fit_goods}
 use Rattle.trade.specs.Trade.{Trader, Fair, owned_in_all}

@@ -1,10 +1,10 @@
 -- What reading a field answers, by the first check that fails.
-use Rattle.std.proofs.Common.{◌≡◌, ℕ, ◌+◌, ◌-◌, ◌<◌, ◌≤◌, Bool, true, false, cond, eqb, leb, List, [], ◌∷◌, length, take, drop, Ok, Err, Result, sym, refl, ap, ◌∙◌, arith}
+use Rattle.std.proofs.Common.{◌≡◌, ℕ, ◌+◌, ◌-◌, ◌<◌, ◌≤◌, true, false, List, [], ◌∷◌, length, take, drop, Ok, Err, Result, sym, ap, ◌∙◌, arith}
 use Rattle.std.proofs.lemmas.List.{take_rest, length-drop}
 use Rattle.std.proofs.lemmas.Bool.{le-leb, lt-leb}
 use Rattle.mesh.specs.Refusals.{Told}
-use Rattle.layout.specs.Faults.{Due, tag_of, length_of, body_of, tag_due, length_fits, value_fits, weights_fit, flaw, check}
-use Rattle.market.specs.Fields.{due_tag, early, field_for}
+use Rattle.layout.specs.Faults.{Due, tag_of, length_of, body_of, tag_due, length_fits, value_fits}
+use Rattle.market.specs.Fields.{due_tag, field_for}
 
 abbrev Answer : Type 0
 Answer = Result (ℕ × List ℕ × ℕ) Told

@@ -1,13 +1,11 @@
 -- A file read to its end: the market that it says, or a good that nobody owns.
-use Rattle.std.proofs.Common.{◌≡◌, ℕ, ◌<◌, ◌≤◌, true, ◌&&◌, eqb, ltb, List, [], ◌∷◌, length, Ok, Err, Result, sym, refl, ap, ◌∙◌, subst, inl, inr, arith}
+use Rattle.std.proofs.Common.{◌≡◌, ℕ, ◌<◌, true, ◌&&◌, eqb, ltb, List, length, Ok, Err, sym, refl, ap, subst, inr}
 use Rattle.std.proofs.lemmas.Bool.{and_parts, ltb-true, eqb-true}
-use Rattle.mesh.specs.declared.refusal.Refusal.{Refusal}
 use Rattle.mesh.specs.declared.refusal.Refusal.TheVariants.{GoodUnowned}
-use Rattle.layout.specs.Layout.{file_of, WellFormed, Valid}
-use Rattle.layout.specs.Faults.{OwnerFault}
+use Rattle.layout.specs.Layout.{file_of, WellFormed}
 use Rattle.market.specs.Held.{Held}
 use Rattle.market.specs.Reading.{economy_of, Placed, Reads}
-use Rattle.market.specs.Markets.{traders_of, MarketNumbers, AllOwned, FirstUnowned}
+use Rattle.market.specs.Markets.{MarketNumbers, AllOwned, FirstUnowned}
 use Rattle.market.specs.declared.rows.Numbers.{Numbers}
 use Rattle.market.specs.declared.market.Market.{Market}
 use Rattle.market.proofs.Endings.{held_whole, held-named, held-market, reads_all}

@@ -1,10 +1,8 @@
 -- What reading one field comes to, from what its parts promise.
-use Rattle.std.proofs.Common.{◌≡◌, ℕ, ◌+◌, ◌-◌, ◌*◌, ◌<◌, ◌≤◌, List, ◌++◌, length, get_or, take, drop, Ok, Err, Result, sym, refl, ap, ◌∙◌, subst, arith}
-use Rattle.std.specs.List.{flat_map}
+use Rattle.std.proofs.Common.{◌≡◌, ℕ, ◌+◌, ◌-◌, ◌*◌, ◌<◌, List, ◌++◌, length, get_or, take, drop, Ok, Err, sym, ap, ◌∙◌, subst, arith}
 use Rattle.std.proofs.lemmas.List.{take-append-drop, take_rest, length-drop, get_or-drop}
 use Rattle.labelling.specs.Bytes.{Bytes, take-bytes}
 use Rattle.mesh.specs.Refusals.{Told}
-use Rattle.layout.specs.Layout.{two}
 use Rattle.layout.specs.Faults.{Due}
 use Rattle.market.specs.Fields.{field_of, field_for}
 use Rattle.market.specs.Held.{Held}

@@ -4,7 +4,7 @@
 --   goods-turn, name-turn, ..          the same, by the tag that is due
 use Rattle.std.proofs.Common.{◌≡◌, ℕ, ◌*◌, ◌<◌, ◌≤◌, Bool, true, false, cond, eqb, ltb, List, refl, arith}
 use Rattle.std.proofs.lemmas.Bool.{both_ways, and_parts, leb-true, eqb-true, eqb-false, eq-eqb, ne_eqb, ltb-true, ltb-false}
-use Rattle.layout.specs.Faults.{Beginning, empty, naming, trading, Due, goods_due, name_due, sum_due, trader_due, nothing_due, tag_due, length_fits}
+use Rattle.layout.specs.Faults.{empty, naming, trading, Due, goods_due, name_due, sum_due, trader_due, nothing_due, tag_due, length_fits}
 use Rattle.market.specs.Rows.{traders_in, names_in}
 use Rattle.market.specs.Fields.{due_tag}
 use Rattle.market.specs.declared.rows.Numbers.{Numbers}

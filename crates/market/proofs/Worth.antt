@@ -1,5 +1,5 @@
 -- How large incomes and what is demanded can become.
-use Rattle.std.proofs.Common.{◌≡◌, ℕ, ◌+◌, ◌*◌, ◌<◌, ◌≤◌, List, length, get_or, take, sum, sym, ap, ◌∙◌, mul-le-mul_right, add-mul, mul-le-mul, mul-le-mul_left, arith}
+use Rattle.std.proofs.Common.{◌≡◌, ℕ, ◌+◌, ◌*◌, ◌<◌, ◌≤◌, List, length, get_or, take, sum, ap, ◌∙◌, mul-le-mul_right, add-mul, mul-le-mul_left, arith}
 use Rattle.std.proofs.lemmas.List.Sums.{sum_by-take-le}
 use Rattle.mesh.proofs.Fill.{sum_more}
 

@@ -1,13 +1,12 @@
 -- The label of a market at a point of as many goods.
-use Rattle.std.specs.Prelude.{◌≡◌, ℕ, ◌+◌, ◌<◌, ◌≤◌, true, List, length, sum, ◌==◌, refl}
+use Rattle.std.specs.Prelude.{◌≡◌, ℕ, ◌<◌, ◌≤◌, List, sum, ◌==◌}
 use Rattle.std.proofs.Common.{sym, ◌∙◌, ap, subst, inl, inr, arith}
 use Rattle.std.specs.List.{AllByRecursion as All}
 use Rattle.std.proofs.lemmas.Bool.{eq-eqb, cond-true, cond_both, eqb-true}
 use Rattle.mesh.specs.Points.{goods_of, mesh_of, prices_of}
 use Rattle.mesh.specs.declared.point.PricePoint.{PricePoint}
 use Rattle.mesh.proofs.PointLevels.{prices-size}
-use Rattle.labelling.specs.Labels.{Proper}
-use Rattle.trade.specs.Trade.{Trader, Labels, Fair, clears, market_label, first_after}
+use Rattle.trade.specs.Trade.{Labels, Fair, clears, market_label, first_after}
 use Rattle.trade.proofs.Labelling.{label-exists}
 use Rattle.trade.proofs.Search.{first-cases}
 use Rattle.market.specs.Markets.{traders_of, market_rule, LabelledBy}

@@ -1,14 +1,14 @@
 -- The traders in the rows of two tables.
-use Rattle.std.specs.Prelude.{◌≡◌, ℕ, zero, suc, ◌+◌, ◌-◌, ◌*◌, ◌<◌, ◌≤◌, Bool, true, ◌&&◌, List, [], ◌∷◌, ◌++◌, length, get_or, take, sum, slice_index, slice_index_or, refl}
+use Rattle.std.specs.Prelude.{◌≡◌, ℕ, zero, suc, ◌+◌, ◌-◌, ◌*◌, ◌<◌, ◌≤◌, true, List, [], ◌∷◌, ◌++◌, length, get_or, take, slice_index, slice_index_or, refl}
 use Rattle.std.proofs.Common.{sym, ◌∙◌, ap, arith, add-one}
 use Rattle.std.specs.List.{AllByRecursion as All}
-use Rattle.std.proofs.lemmas.Bool.{and_parts, and_from, eqb-true, eq-eqb, ltb-true, lt-ltb}
+use Rattle.std.proofs.lemmas.Bool.{and_parts, eqb-true}
 use Rattle.std.proofs.lemmas.List.{length-take}
 use Rattle.std.proofs.lemmas.List.Sums.{sum_by_push}
 use Rattle.mesh.specs.Prices.{price}
 use Rattle.mesh.proofs.Price.{price-in-table}
 use Rattle.trade.specs.Trade.{Trader, Fair, dot, income, owned_in_all, demand}
-use Rattle.market.specs.Rows.{trader_at, join_rows, traders_in, short, fits, all_fit}
+use Rattle.market.specs.Rows.{trader_at, traders_in, fits, all_fit}
 use Rattle.market.specs.declared.rows.Amounts.{Amounts}
 
 -- One row more.

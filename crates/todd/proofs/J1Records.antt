@@ -1,5 +1,5 @@
 -- J1 on records of cells.
-use Rattle.std.proofs.Common.{◌≡◌, ℕ, ◌+◌, ◌-◌, ◌%◌, ◌<◌, ◌≤◌, Bool, true, false, not, ◌&&◌, eqb, List, [], ◌∷◌, length, get_or, take, drop, set, Some, None, Ok, Option, sym, refl, ap, ◌∙◌, subst, inl, inr, arith}
+use Rattle.std.proofs.Common.{◌≡◌, ℕ, ◌+◌, ◌-◌, ◌%◌, ◌<◌, ◌≤◌, Bool, true, false, not, ◌&&◌, eqb, List, length, get_or, take, drop, set, Some, None, Ok, Option, sym, refl, ap, ◌∙◌, subst, inl, inr, arith}
 use Rattle.std.proofs.lemmas.List.{get_or-take, get_or-set_same, get_or-set_other, at_drop_more}
 use Rattle.std.proofs.lemmas.Bool.{eq-eqb, ne_eqb, cond-true, cond-false, cases_eq}
 use Rattle.mesh.specs.declared.grid.Grid.{Grid}
@@ -8,7 +8,7 @@ use Rattle.cells.specs.Cells.{shape_of, crossing, Reached, CornerAnswer, AcrossA
 use Rattle.cells.specs.declared.cell.Cell.{Cell}
 use Rattle.todd.specs.Steps.{level, shift, nth, stop}
 use Rattle.todd.specs.J1.{J1Cell, j1_across, j1, upward, turned, all_even}
-use Rattle.todd.specs.Walk.{Holds, corner_at, stop_number, step, Crosses, middle_across, j1_first_across, j1_last_across}
+use Rattle.todd.specs.Walk.{Holds, corner_at, stop_number, Crosses, middle_across, j1_first_across, j1_last_across}
 use Rattle.todd.specs.Bridge as bridge
 use Rattle.todd.specs.Bridge.{shift_same, length_shift}
 use Rattle.todd.proofs.Walking.{take-set-front, take-shift, order-low, order-high, ups-long, base-long, corner-small, mesh-small}

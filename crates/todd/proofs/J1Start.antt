@@ -1,5 +1,5 @@
 -- The start cell of J1 as a record.
-use Rattle.std.proofs.Common.{◌≡◌, ℕ, suc, ◌-◌, ◌%◌, ◌<◌, Bool, true, false, ◌&&◌, eqb, List, [], ◌∷◌, map, length, get_or, take, drop, replicate, Ok, sum, Result, sym, ap, ◌∙◌, arith}
+use Rattle.std.proofs.Common.{◌≡◌, ℕ, suc, ◌-◌, ◌%◌, ◌<◌, Bool, true, false, ◌&&◌, eqb, List, map, length, get_or, take, drop, replicate, Ok, sum, Result, sym, ap, ◌∙◌, arith}
 use Rattle.std.proofs.lemmas.List.Sums.{sum_by-take-drop}
 use Rattle.std.proofs.lemmas.List.{get_or-take, get_or-map, length-take, length-map, ext_get_or, take-replicate}
 use Rattle.std.proofs.lemmas.Bool.{eq-eqb, ne_eqb, and_from}

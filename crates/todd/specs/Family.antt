@@ -6,7 +6,7 @@
 --   Same              cells that agree below g
 --   Right             what the laws say of what lies across a place
 --   start             the cell at the levels of a start point
-use Rattle.std.specs.Prelude.{◌≡◌, ℕ, zero, suc, ◌+◌, ◌-◌, ◌<◌, ◌≤◌, min, Bool, true, false, cond, not, ◌&&◌, ◌||◌, ◌==◌, ◌≢◌, nat_lt}
+use Rattle.std.specs.Prelude.{◌≡◌, ℕ, suc, ◌+◌, ◌-◌, ◌<◌, ◌≤◌, min, Bool, true, false, cond, not, ◌&&◌, ◌||◌, ◌==◌, ◌≢◌, nat_lt}
 use Rattle.cells.specs.Corners.{Wall, outer_wall, real_wall, good_wall, skip}
 
 -- A level that takes the values a and a + 1 and moves at step q (from place q to place q + 1), at place k.

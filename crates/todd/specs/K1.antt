@@ -1,6 +1,6 @@
 -- Todd's K1. A cell is a base and an order of the levels. The corner at place 0 is the base; the corner at place k is the one before it with
 -- the k-th level of the order raised by one. (All directions are up.)
-use Rattle.std.specs.Prelude.{◌≡◌, ℕ, zero, suc, ◌-◌, ◌≤◌, true, false, cond, List, [], ◌∷◌, ◌++◌, map, length, take, drop, replicate, ◌==◌}
+use Rattle.std.specs.Prelude.{◌≡◌, ℕ, zero, suc, ◌-◌, ◌≤◌, true, false, cond, List, ◌∷◌, ◌++◌, map, length, take, drop, replicate, ◌==◌}
 use Rattle.mesh.specs.Prices.{to_levels}
 use Rattle.cells.specs.Corners.{Corner}
 use Rattle.cells.specs.Triangulation.{Shape, Across, moved, Mesh}

@@ -1,5 +1,5 @@
 -- The laws of start points, of a triangulation whose cells are members of the family.
-use Rattle.std.specs.Prelude.{◌≡◌, ℕ, ◌-◌, ◌<◌, ◌≤◌, Bool, true, false, T, List, length, sum, slice_index}
+use Rattle.std.specs.Prelude.{◌≡◌, ℕ, ◌<◌, ◌≤◌, Bool, true, false, T, List, length, sum, slice_index}
 use Rattle.std.proofs.Common.{sym, ◌∙◌, ap, subst, arith}
 use Rattle.mesh.specs.Prices.{first, to_levels}
 use Rattle.mesh.proofs.Levels.{first-levels}

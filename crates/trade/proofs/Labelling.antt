@@ -2,7 +2,7 @@
 --   excess-sign             an excess is at most 0 just where the demand is at most the supply
 --   clears-is, -yes, -no    the test for a label without signs, and what it tells
 --   label-exists, label-determined    the two laws
-use Rattle.std.proofs.Common.{◌≡◌, ℕ, ◌+◌, ◌*◌, ◌<◌, ◌≤◌, true, false, ◌&&◌, ltb, leb, ◌⊎◌, List, length, ℤ, pos, ◌-ℤ◌, ◌≤ℤ◌, ◌<ℤ◌, sum, sym, ap, ◌∙◌, subst, ⊎_elim, arith}
+use Rattle.std.proofs.Common.{◌≡◌, ℕ, ◌+◌, ◌*◌, ◌<◌, ◌≤◌, true, false, ◌&&◌, ltb, leb, List, length, pos, ◌-ℤ◌, ◌≤ℤ◌, ◌<ℤ◌, sum, sym, ap, ◌∙◌, subst, ⊎_elim, arith}
 use lib.Signed.{le_z, clash_ℤ}
 use Rattle.std.specs.List.{AllByRecursion as All}
 use Rattle.std.proofs.lemmas.Int.{ints}

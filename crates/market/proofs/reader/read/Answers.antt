@@ -1,6 +1,6 @@
-use Rattle.std.proofs.Common.{◌≡◌, sym, ap, ◌∙◌, inl, inr}
+use Rattle.std.proofs.Common.{inl}
 use Rattle.std.proofs.lemmas.Result.{err_from_is_err_and}
-use Rattle.market.proofs.Turns.{held_whole, reads_all}
+use Rattle.market.proofs.Turns.{reads_all}
 use Rattle.market.proofs.Finished.{end-tells, market-numbers, whole-market, unowned-fault}
 use Rattle.market.proofs.reader.read.Goals as goal
 

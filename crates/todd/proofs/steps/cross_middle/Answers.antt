@@ -1,4 +1,4 @@
-use Rattle.std.proofs.Common.{sym, refl, ◌∙◌, arith}
+use Rattle.std.proofs.Common.{sym, refl, ◌∙◌}
 use Rattle.todd.proofs.CrossRecords.{cross-wall, cross-moved, stop_is, middle-shape}
 use Rattle.todd.proofs.steps.cross_middle.Goals as goal
 

@@ -1,4 +1,4 @@
-use Rattle.std.proofs.Common.{◌≡◌, ◌≤◌}
+use Rattle.std.proofs.Common.{◌≡◌}
 use Rattle.todd.specs.Steps.{level}
 use Rattle.todd.specs.Walk.{Holds, corner_at}
 use Rattle.todd.proofs.steps.level_of.Given as goal

@@ -1,4 +1,4 @@
-use Rattle.std.proofs.Common.{get_or, refl, ◌∙◌, arith}
+use Rattle.std.proofs.Common.{refl, ◌∙◌, arith}
 use Rattle.std.proofs.lemmas.List.{length-set}
 use Rattle.mesh.proofs.Fill.{filled_more, filled-all}
 use Rattle.labelling.specs.Bytes.{blank-bytes, set-bytes}

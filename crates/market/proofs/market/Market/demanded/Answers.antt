@@ -1,4 +1,4 @@
-use Rattle.std.proofs.Common.{◌≡◌, ◌+◌, ◌-◌, ◌*◌, ◌<◌, ◌≤◌, get_or, ap, ◌∙◌, mul-le-mul, arith, rules}
+use Rattle.std.proofs.Common.{◌≡◌, ◌-◌, ◌*◌, ◌<◌, ◌≤◌, get_or, ap, ◌∙◌, mul-le-mul, arith, rules}
 use Rattle.trade.specs.Trade.{dot}
 use Rattle.market.specs.TraderRows.{blank, row_fits, row-sizes, demand-more}
 use Rattle.market.proofs.market.Market.demanded.Goals as goal

@@ -1,4 +1,4 @@
-use Rattle.std.proofs.Common.{sym, refl, ◌∙◌, arith}
+use Rattle.std.proofs.Common.{refl, arith}
 use Rattle.todd.proofs.K1Records.{k1-holds, k1-across-answer, across-middle}
 use Rattle.todd.proofs.k1.K1Triangulation.across.Goals as goal
 

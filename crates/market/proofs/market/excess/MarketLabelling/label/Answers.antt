@@ -1,5 +1,5 @@
-use Rattle.std.proofs.Common.{◌≡◌, sym, ◌∙◌, arith}
-use Rattle.mesh.specs.Points.{goods_of, prices_of}
+use Rattle.std.proofs.Common.{sym, ◌∙◌, arith}
+use Rattle.mesh.specs.Points.{prices_of}
 use Rattle.trade.specs.Trade.{clears}
 use Rattle.trade.proofs.Search.{left-more, left_here, left_end}
 use Rattle.market.specs.Markets.{traders_of}
