@@ -23,8 +23,8 @@ fn market_reads_back(rt: HostRuntime) -> Result<(), Fail> {
     assert_eq!(rt; market.owned_in_all(1)?, 1);
     assert_eq!(rt; market.owned_in_all(2)?, 1);
     assert_eq!(rt; market.owned_in_all(3), Err(Refusal::NoSuchGood));
-    assert!(rt; file.name(1)? == b"a");
-    assert!(rt; file.name(2)? == b"b");
+    assert!(rt; file.name(1)? == b"a".as_slice());
+    assert!(rt; file.name(2)? == b"b".as_slice());
     assert_eq!(rt; file.name_place(1)?, 7);
     assert_eq!(rt; file.name_place(2)?, 11);
     assert_eq!(rt; file.name_place(3), Err(Refusal::NoSuchGood));
