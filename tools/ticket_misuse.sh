@@ -6,8 +6,7 @@ set -u
 root=$(cd "$(dirname "$0")/.." && pwd)
 work=$(mktemp -d)
 trap 'rm -rf "$work"' EXIT
-cp -r "$root/crates.txt" "$root/crates" "$work/"
-[ -d "$root/target" ] && cp -r "$root/target" "$work/"
+tar -C "$root" --exclude=out -cf - crates.txt crates | tar -C "$work" -xf -
 echo 'ticket_use: mesh labelling cells path state walk' >> "$work/crates.txt"
 mkdir -p "$work/crates/ticket_use/src"
 failed=0
@@ -16,6 +15,8 @@ failed=0
 lay() {
     cat > "$work/crates/ticket_use/src/lib.rt" <<EOT
 // What a caller may do with a ticket.
+#![tactic(auto)]
+
 use cells::Triangulation;
 use labelling::Labelling;
 use mesh::refusal::Refusal;
@@ -33,7 +34,7 @@ EOT
 }
 
 check() {
-    (cd "$work" && rt check ticket_use 2>&1)
+    (cd "$work/crates/ticket_use" && rt check 2>&1)
 }
 
 accepts() {

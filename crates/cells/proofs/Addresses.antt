@@ -9,7 +9,7 @@
 use Rattle.std.proofs.Common.{◌≡◌, ℕ, zero, suc, ◌+◌, ◌*◌, ◌/◌, ◌%◌, ◌^◌, ◌<◌, ◌≤◌, cond, eqb, List, [], ◌∷◌, length, get_or, sym, refl, ap, ◌∙◌, ⊎_elim, suc-mul, mul-add, arith}
 use native.Mathlib.Nat.{pow-zero, pow-succ', eq-sub_of_add-eq}
 use lib.Arith.{digits_lt, digits_div, digits_mod}
-use Rattle.std.specs.List.{AllByRecursion as All}
+use Rattle.std.specs.List.{AllByRecursion}
 use Rattle.std.proofs.ByRecursion.{All-get_or}
 use Rattle.std.proofs.lemmas.Bool.{cases_lt, cond-true, cond-false, eq-eqb, ne_eqb}
 use Rattle.cells.specs.Corners.{Apart}
@@ -103,13 +103,13 @@ rank-tells {D} (later {x} {g} {xs} l a) (later {x = y} {xs = ys} k b) e =
     same-cons t.0 (rank-tells a b t.1)
 
 -- The lists of which the laws speak are addresses.
-digits_from : (D g : ℕ) (xs : List ℕ) → length xs ≡ g → All (λ n. n ≤ D) xs → Digits D g xs
+digits_from : (D g : ℕ) (xs : List ℕ) → length xs ≡ g → AllByRecursion (λ n. n ≤ D) xs → Digits D g xs
 digits_from D zero [] size small = none
 digits_from D zero (x ∷ xs) size small = absurd (omega arith)
 digits_from D (suc g) [] size small = absurd (omega arith)
 digits_from D (suc g) (x ∷ xs) size small = digit small.0 (digits_from D g xs (omega arith) small.1)
 
-address-from : (D g : ℕ) (xs : List ℕ) → length xs ≡ g → All (λ n. n ≤ D) xs → (k : ℕ) × (k < g) × (get_or xs k 0 ≡ D) → Address D g xs
+address-from : (D g : ℕ) (xs : List ℕ) → length xs ≡ g → AllByRecursion (λ n. n ≤ D) xs → (k : ℕ) × (k < g) × (get_or xs k 0 ≡ D) → Address D g xs
 address-from D zero xs size small (k, low, full) = absurd (omega arith)
 address-from D (suc g) [] size small (k, low, full) = absurd (omega arith)
 address-from D (suc g) (x ∷ xs) size small (zero, low, full) = rw full (here (digits_from D g xs (omega arith) small.1))
@@ -128,11 +128,11 @@ addresses-bounded g D m f size small full differ =
     (λ i j low high same. differ i j low high (rank-tells (address i low) (address j high) same)))
 
 -- The same of a list of addresses.
-pub apart-list : (g D : ℕ) (xs : List (List ℕ)) → All (λ v. length v ≡ g) xs → All (λ v. All (λ n. n ≤ D) v) xs
-    → All (λ v. (k : ℕ) × (k < g) × (get_or v k 0 ≡ D)) xs → Apart (length xs) (λ i. get_or xs i []) → length xs ≤ bound g D
+pub apart-list : (g D : ℕ) (xs : List (List ℕ)) → AllByRecursion (λ v. length v ≡ g) xs → AllByRecursion (λ v. AllByRecursion (λ n. n ≤ D) v) xs
+    → AllByRecursion (λ v. (k : ℕ) × (k < g) × (get_or v k 0 ≡ D)) xs → Apart (length xs) (λ i. get_or xs i []) → length xs ≤ bound g D
 apart-list g D xs size small full differ =
     addresses-bounded g D (length xs) (λ i. get_or xs i [])
     (λ i low. All-get_or (λ v. length v ≡ g) xs i [] low size)
-    (λ i low. All-get_or (λ v. All (λ n. n ≤ D) v) xs i [] low small)
+    (λ i low. All-get_or (λ v. AllByRecursion (λ n. n ≤ D) v) xs i [] low small)
     (λ i low. All-get_or (λ v. (k : ℕ) × (k < g) × (get_or v k 0 ≡ D)) xs i [] low full)
     differ

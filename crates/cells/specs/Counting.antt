@@ -1,6 +1,6 @@
 -- How many cells there can be.
 use Rattle.std.specs.Prelude.{◌≡◌, ℕ, suc, ◌-◌, ◌^◌, ◌<◌, ◌≤◌, List, length, slice_index}
-use Rattle.std.specs.List.{AllByRecursion as All}
+use Rattle.std.specs.List.{AllByRecursion}
 use Rattle.cells.specs.Corners.{Apart}
 use Rattle.cells.specs.Triangulation.{Shape, Mesh}
 
@@ -11,7 +11,7 @@ bound g D = suc D ^ g - D ^ g
 -- No more than that many different lists of g numbers up to D, each with a D among them, can be listed.
 abbrev pub AddressesBounded : Type 0
 AddressesBounded =
-    (g D m : ℕ) (f : ℕ → List ℕ) → ((i : ℕ) → i < m → length (f i) ≡ g) → ((i : ℕ) → i < m → All (λ n. n ≤ D) (f i))
+    (g D m : ℕ) (f : ℕ → List ℕ) → ((i : ℕ) → i < m → length (f i) ≡ g) → ((i : ℕ) → i < m → AllByRecursion (λ n. n ≤ D) (f i))
     → ((i : ℕ) → i < m → (k : ℕ) × (k < g) × (slice_index (f i) k ≡ D)) → Apart m f → m ≤ bound g D
 
 -- No more than that many points fit apart into 0 to n - 1.

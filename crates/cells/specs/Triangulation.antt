@@ -4,7 +4,7 @@
 --   Mesh         the meaning of a triangulation for g goods and the mesh D
 --   Lawful       the laws
 use Rattle.std.specs.Prelude.{◌≡◌, ℕ, suc, ◌%◌, ◌<◌, ◌≤◌, Bool, T, List, length, sum, slice_index}
-use Rattle.std.specs.List.{AllByRecursion as All}
+use Rattle.std.specs.List.{AllByRecursion}
 use Rattle.mesh.specs.Prices.{to_levels}
 use Rattle.cells.specs.Corners.{Corner, Wall, outer_wall, IsWall, On, outer_label, skip, Apart}
 
@@ -79,8 +79,8 @@ module _ {Cell : Type 0} {g D : ℕ} (M : Mesh Cell g D) where
     pub only_start : (c : List ℕ) → T (admitted c) → (a : Cell) → is_cell a → (i : ℕ) → i ≤ g → Starts c a i → a ≡ start c
     -- an address of g numbers up to D, one of them D, tells a cell from all others
     pub address_size : (a : Cell) → is_cell a → length (address a) ≡ g
-    pub address_small : (a : Cell) → is_cell a → All (λ n. n ≤ D) (address a)
+    pub address_small : (a : Cell) → is_cell a → AllByRecursion (λ n. n ≤ D) (address a)
     pub address_full : (a : Cell) → is_cell a → (k : ℕ) × (k < g) × (slice_index (address a) k ≡ D)
     pub addressed : (a b : Cell) → is_cell a → is_cell b → address a ≡ address b → a ≡ b
     -- a point is admitted where the mesh and all prices are even
-    pub even : (c : List ℕ) → length c ≡ g → sum c ≡ D → D % 2 ≡ 0 → All (λ x. x % 2 ≡ 0) c → T (admitted c)
+    pub even : (c : List ℕ) → length c ≡ g → sum c ≡ D → D % 2 ≡ 0 → AllByRecursion (λ x. x % 2 ≡ 0) c → T (admitted c)

@@ -9,7 +9,7 @@
 use Rattle.std.proofs.Common.{◌≡◌, ℕ, ◌+◌, ◌*◌, ◌/◌, ◌%◌, ◌<◌, ◌≤◌, true, List, [], ◌∷◌, ◌++◌, length, get_or, drop, sym, refl, ap, ◌∙◌, append_assoc, mul_comm, arith}
 use native.Mathlib.Nat.{div-add-mod}
 use lib.Arith.{digits_div, digits_mod}
-use Rattle.std.specs.List.{flat_map, AllByRecursion as All}
+use Rattle.std.specs.List.{flat_map, AllByRecursion}
 use Rattle.std.proofs.lemmas.List.{flat_map_more, drop-drop, length-take-le, take-append-drop}
 use Rattle.std.proofs.lemmas.Bool.{and_parts}
 use Rattle.trade.specs.Trade.{Trader}
@@ -67,7 +67,7 @@ one-trader g names S ts t =
     ap (λ r. goods_field g ++ (flat_map name_field names ++ r)) (sym (flat_map_more trader_field (sum_field S) ts t))
     ∙ ap (λ r. goods_field g ++ r) (sym (append_assoc (flat_map name_field names) (sum_field S ++ flat_map trader_field ts) (trader_field t)))
 
-pub all-print : (bs : List ℕ) → all_print bs ≡ true → All (λ b. printing b ≡ true) bs
+pub all-print : (bs : List ℕ) → all_print bs ≡ true → AllByRecursion (λ b. printing b ≡ true) bs
 all-print [] h = tt
 all-print (b ∷ bs) h = let parts = and_parts (printing b) (all_print bs) h in (parts.0, all-print bs parts.1)
 

@@ -2,7 +2,7 @@
 -- Each lemma takes a reading from after a field, and gives one from before it.
 use Rattle.std.proofs.Common.{◌≡◌, ℕ, ◌+◌, ◌*◌, ◌<◌, ◌≤◌, true, false, ltb, List, [], ◌∷◌, ◌++◌, length, take, drop, sum, refl, ap, ◌∙◌, append_assoc, arith, length-append}
 use native.Mathlib.Nat.{div-add-mod}
-use Rattle.std.specs.List.{flat_map, AllByRecursion as All}
+use Rattle.std.specs.List.{flat_map, AllByRecursion}
 use Rattle.std.proofs.lemmas.List.{append-nil, length_push, take_at, drop_at}
 use Rattle.std.proofs.lemmas.Bool.{lt-ltb, le-ltb, eq-eqb, and_from}
 use Rattle.mesh.specs.Range.{fit_goods}
@@ -25,7 +25,7 @@ past-goods : (g : ℕ) (c : Beginning) (rest end : List ℕ) → fit_goods g ≡
 past-goods g c rest end fit r = past-field empty c 1 (g ∷ []) rest end refl refl fit refl r
 
 -- A name.
-all-printing : (bs : List ℕ) → All (λ b. printing b ≡ true) bs → all_print bs ≡ true
+all-printing : (bs : List ℕ) → AllByRecursion (λ b. printing b ≡ true) bs → all_print bs ≡ true
 all-printing [] h = refl
 all-printing (b ∷ bs) h = and_from (printing b) (all_print bs) h.0 (all-printing bs h.1)
 
@@ -39,7 +39,7 @@ past-name g old name c rest end low fits r =
 -- All names.
 past-names :
     (g : ℕ) (old new : List (List ℕ)) (c : Beginning) (rest end : List ℕ)
-    → length old + length new ≤ g → All NameFits new → Runs (naming g (old ++ new)) rest c end
+    → length old + length new ≤ g → AllByRecursion NameFits new → Runs (naming g (old ++ new)) rest c end
     → Runs (naming g old) (flat_map name_field new ++ rest) c end
 past-names g old [] c rest end low fits r = rw append-nil at r
 past-names g old (name ∷ new) c rest end low fits r =
@@ -84,7 +84,7 @@ past-trader g names S old t c rest end low fits r =
 
 past-traders :
     (g : ℕ) (names : List (List ℕ)) (S : ℕ) (old new : List Trader) (c : Beginning) (rest end : List ℕ)
-    → length old + length new ≤ 16 → All (TraderFits g S) new → Runs (trading g names S (old ++ new)) rest c end
+    → length old + length new ≤ 16 → AllByRecursion (TraderFits g S) new → Runs (trading g names S (old ++ new)) rest c end
     → Runs (trading g names S old) (flat_map trader_field new ++ rest) c end
 past-traders g names S old [] c rest end low fits r = rw append-nil at r
 past-traders g names S old (t ∷ new) c rest end low fits r =

@@ -4,7 +4,7 @@
 --   flaw          the first check that the bytes after them fail, by its number
 --   Fault         the refusal that a byte string gets: its number, and the place or the good that it carries
 use Rattle.std.specs.Prelude.{◌≡◌, ℕ, ◌+◌, ◌*◌, ◌<◌, ◌≤◌, Bool, true, false, cond, ◌&&◌, ◌⊎◌, List, [], ◌∷◌, ◌++◌, length, take, drop, sum, ◌==◌, nat_le, nat_lt, slice_index}
-use Rattle.std.specs.List.{flat_map, AllByRecursion as All}
+use Rattle.std.specs.List.{flat_map, AllByRecursion}
 use Rattle.mesh.specs.Refusals.{Told}
 use Rattle.mesh.specs.Range.{between, fit_goods}
 use Rattle.trade.specs.Trade.{Trader, owned_in_all}
@@ -25,9 +25,9 @@ bytes_of (trading g names S traders) = goods_field g ++ (flat_map name_field nam
 -- They are good: in range, and no more of them than there may be.
 abbrev pub Sound : Beginning → Type 0
 Sound empty = Unit {0}
-Sound (naming g names) = (fit_goods g ≡ true) × (length names ≤ g) × All NameFits names
+Sound (naming g names) = (fit_goods g ≡ true) × (length names ≤ g) × AllByRecursion NameFits names
 Sound (trading g names S traders) =
-    (fit_goods g ≡ true) × (length names ≡ g) × All NameFits names × (fit_sum S ≡ true) × (length traders ≤ 16) × All (TraderFits g S) traders
+    (fit_goods g ≡ true) × (length names ≡ g) × AllByRecursion NameFits names × (fit_sum S ≡ true) × (length traders ≤ 16) × AllByRecursion (TraderFits g S) traders
 
 -- Which field is due: a trader's is known by the goods and the weight sum.
 pub data Due : Type 0 where

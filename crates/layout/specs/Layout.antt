@@ -6,7 +6,7 @@
 --   Valid            well formed, and every good is owned by somebody
 -- A file is a list of bytes.
 use Rattle.std.specs.Prelude.{◌≡◌, ℕ, ◌/◌, ◌%◌, ◌<◌, ◌≤◌, Bool, true, List, [], ◌∷◌, ◌++◌, length}
-use Rattle.std.specs.List.{flat_map, AllByRecursion as All}
+use Rattle.std.specs.List.{flat_map, AllByRecursion}
 use Rattle.mesh.specs.Range.{between, fit_goods}
 use Rattle.trade.specs.Trade.{Trader, Fair, owned_in_all}
 
@@ -51,7 +51,7 @@ printing b = between 32 126 b
 -- A name of 1 to 32 printing characters.
 pub record NameFits (name : List ℕ) : Type 0 where
   pub size : between 1 32 (length name) ≡ true
-  pub prints : All (λ b. printing b ≡ true) name
+  pub prints : AllByRecursion (λ b. printing b ≡ true) name
 
 -- The weight sum is 1 to 1,000.
 abbrev pub fit_sum : ℕ → Bool
@@ -60,16 +60,16 @@ fit_sum S = between 1 1000 S
 -- A trader of g goods whose weights add up to S, with no number of more than two bytes.
 pub record TraderFits (g S : ℕ) (t : Trader) : Type 0 where
   pub fair : Fair g S t
-  pub owned : All (λ n. n < 65536) t.owns
-  pub weighed : All (λ n. n < 65536) t.weighs
+  pub owned : AllByRecursion (λ n. n < 65536) t.owns
+  pub weighed : AllByRecursion (λ n. n < 65536) t.weighs
 
 pub record WellFormed (e : Economy) : Type 0 where
   pub goods : fit_goods e.goods ≡ true
   pub named : length e.names ≡ e.goods
-  pub names : All NameFits e.names
+  pub names : AllByRecursion NameFits e.names
   pub sum : fit_sum e.sum ≡ true
   pub some : between 1 16 (length e.traders) ≡ true
-  pub traders : All (TraderFits e.goods e.sum) e.traders
+  pub traders : AllByRecursion (TraderFits e.goods e.sum) e.traders
 
 pub record Valid (e : Economy) : Type 0 where
   pub formed : WellFormed e

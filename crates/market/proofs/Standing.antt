@@ -4,7 +4,7 @@
 --   held-due, held-ended           the field that is due, and whether the file has ended
 --   held-fault                     a refused field is the fault of the file
 use Rattle.std.proofs.Common.{◌≡◌, ℕ, ◌<◌, ◌≤◌, true, false, ◌&&◌, eqb, ltb, List, [], ◌∷◌, ◌++◌, length, drop, Err, sym, refl, ap, ◌∙◌, subst, inl, inr, arith, lit≤}
-use Rattle.std.specs.List.{AllByRecursion as All}
+use Rattle.std.specs.List.{AllByRecursion}
 use Rattle.std.proofs.lemmas.List.{length-map, length-take-le, length-drop, take-append-drop}
 use Rattle.std.proofs.lemmas.Bool.{and_parts, leb-true, eq-eqb, ne_eqb, le-ltb, cases_eq}
 use Rattle.std.proofs.lemmas.Bool.Decides.{nat_tests}
@@ -46,14 +46,14 @@ module _ (file : List ℕ) (at : ℕ) (n : Numbers) (held : Held file at n) wher
       (omega (arith, held.few_traders, held.weighs_room))
 
   pub sound-naming : 0 < n.goods → n.sum ≡ 0
-      → (fit_goods n.goods ≡ true) × (n.named ≤ n.goods) × All NameFits (names_in file n.named n.names)
+      → (fit_goods n.goods ≡ true) × (n.named ≤ n.goods) × AllByRecursion NameFits (names_in file n.named n.names)
   sound-naming some none =
       let sound : Sound (naming n.goods (names_in file n.named n.names)) = subst Sound (is-naming file n some none) held.sound in
       (sound.0, omega (arith, sound.1, names-many), sound.2)
 
   pub sound-trading : 0 < n.goods → 0 < n.sum
-      → (fit_goods n.goods ≡ true) × (n.named ≡ n.goods) × All NameFits (names_in file n.named n.names) × (fit_sum n.sum ≡ true)
-      × All (TraderFits n.goods n.sum) (traders_in n.goods n.traders n.endowments n.weights)
+      → (fit_goods n.goods ≡ true) × (n.named ≡ n.goods) × AllByRecursion NameFits (names_in file n.named n.names) × (fit_sum n.sum ≡ true)
+      × AllByRecursion (TraderFits n.goods n.sum) (traders_in n.goods n.traders n.endowments n.weights)
   sound-trading some more =
       let sound : Sound (trading n.goods (names_in file n.named n.names) n.sum (traders_in n.goods n.traders n.endowments n.weights)) =
       subst Sound (is-trading file n some more) held.sound

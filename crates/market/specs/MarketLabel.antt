@@ -1,7 +1,7 @@
 -- The label of a market at a point of as many goods.
 use Rattle.std.specs.Prelude.{◌≡◌, ℕ, ◌<◌, ◌≤◌, List, sum, ◌==◌}
 use Rattle.std.proofs.Common.{sym, ◌∙◌, ap, subst, inl, inr, arith}
-use Rattle.std.specs.List.{AllByRecursion as All}
+use Rattle.std.specs.List.{AllByRecursion}
 use Rattle.std.proofs.lemmas.Bool.{eq-eqb, cond-true, cond_both, eqb-true}
 use Rattle.mesh.specs.Points.{goods_of, mesh_of, prices_of}
 use Rattle.mesh.specs.declared.point.PricePoint.{PricePoint}
@@ -24,7 +24,7 @@ module _ (m : Market) (p : PricePoint) (same : goods_of p ≡ m.numbers.goods) w
   -- It exists, and is proper.
   pub label-here : (l : ℕ) → l ≡ first_after m.numbers.goods 0 (clears m.numbers.sum (traders_of m) (prices_of p)) → LabelledBy m p l
   label-here l e =
-      let fair = subst (λ g. All (Fair g m.numbers.sum) (traders_of m)) (sym same) (all_fair m.numbers.goods m.numbers.sum (traders_of m) m.shares) in
+      let fair = subst (λ g. AllByRecursion (Fair g m.numbers.sum) (traders_of m)) (sym same) (all_fair m.numbers.goods m.numbers.sum (traders_of m) m.shares) in
       let some : 0 < sum (prices_of p) = omega (arith, p.adds_up, p.grid.mesh_fits.0) in
       let here = label-exists (goods_of p) m.numbers.sum (traders_of m) (prices_of p) fair (prices-size p) some in
       let is : market_label (goods_of p) m.numbers.sum (traders_of m) (prices_of p) ≡ l

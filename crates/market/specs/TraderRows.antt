@@ -1,7 +1,7 @@
 -- The traders in the rows of two tables.
 use Rattle.std.specs.Prelude.{◌≡◌, ℕ, zero, suc, ◌+◌, ◌-◌, ◌*◌, ◌<◌, ◌≤◌, true, List, [], ◌∷◌, ◌++◌, length, get_or, take, slice_index, slice_index_or, refl}
 use Rattle.std.proofs.Common.{sym, ◌∙◌, ap, arith, add-one}
-use Rattle.std.specs.List.{AllByRecursion as All}
+use Rattle.std.specs.List.{AllByRecursion}
 use Rattle.std.proofs.lemmas.Bool.{and_parts, eqb-true}
 use Rattle.std.proofs.lemmas.List.{length-take}
 use Rattle.std.proofs.lemmas.List.Sums.{sum_by_push}
@@ -51,7 +51,7 @@ fits-fair g S t e =
     let rest = and_parts _ _ parts.1 in
     record { owned = eqb-true _ _ sizes.0; weighed = eqb-true _ _ sizes.1; shares = eqb-true _ _ rest.0 }
 
-pub all_fair : (g S : ℕ) (ts : List Trader) → all_fit g S ts ≡ true → All (Fair g S) ts
+pub all_fair : (g S : ℕ) (ts : List Trader) → all_fit g S ts ≡ true → AllByRecursion (Fair g S) ts
 all_fair g S [] e = tt
 all_fair g S (t ∷ ts) e = let parts = and_parts _ _ e in (fits-fair g S t parts.0, all_fair g S ts parts.1)
 

@@ -4,7 +4,7 @@
 --   halts_only, halts_there, no_halt     a walk halts just where the newest corner is not properly labelled
 --   arrives_in                           the cell of an arrival
 use Rattle.std.proofs.Common.{◌≡◌, ℕ, ◌≤◌, T as Holds, ◌⊎◌, List, [], ◌∷◌, length, refl, subst, ap₂, inl, inr, ⊎_elim, arith}
-use Rattle.std.specs.List.{AllByRecursion as All}
+use Rattle.std.specs.List.{AllByRecursion}
 use Rattle.std.proofs.ByRecursion.{All-weaker}
 use Rattle.mesh.specs.Range.{fit_goods}
 use Rattle.labelling.specs.Labels.{Rule}
@@ -17,16 +17,16 @@ use Rattle.path.proofs.Different.{all-different}
 use Rattle.path.proofs.Sound.{OnTrail, Ending, Sound, leg-bound}
 use Rattle.path.proofs.OneLeg.{leg-single, improper-at, improper-is, improper-not, arrived_cell}
 
-pub totalled : (ls : List Leg) → All (λ l. Single (entered l)) ls → DifferentIn ls (entries ls)
+pub totalled : (ls : List Leg) → AllByRecursion (λ l. Single (entered l)) ls → DifferentIn ls (entries ls)
 totalled [] h = refl
 totalled (l ∷ ls) h = (length (entered l), entries ls, all-different (entered l) h.0, totalled ls h.1, refl)
 
 module _ (T : (g D : ℕ) → Mesh Shape g D) (L : Rule) (o : Opening) (lawful : (g D : ℕ) → 2 ≤ g → 1 ≤ D → Lawful (T g D)) where
-  pub all-single : (ls : List Leg) → Holds (fit_goods o.goods) → All (OnTrail T L o) ls → All (λ l. Single (entered l)) ls
+  pub all-single : (ls : List Leg) → Holds (fit_goods o.goods) → AllByRecursion (OnTrail T L o) ls → AllByRecursion (λ l. Single (entered l)) ls
   all-single ls goods h = All-weaker _ _ (λ l on. leg-single T L o lawful l goods on) ls h
 
-  pub all-bounded : (ls : List Leg) → Holds (fit_goods o.goods) → All (OnTrail T L o) ls
-      → All (λ l. length (entered l) ≤ bound o.goods l.mesh) ls
+  pub all-bounded : (ls : List Leg) → Holds (fit_goods o.goods) → AllByRecursion (OnTrail T L o) ls
+      → AllByRecursion (λ l. length (entered l) ≤ bound o.goods l.mesh) ls
   all-bounded ls goods h = All-weaker _ _ (λ l on. leg-bound T L o lawful l goods on) ls h
 
   module _ (p : Path) (s : Sound T L o p) where

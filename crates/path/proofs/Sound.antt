@@ -3,7 +3,7 @@
 --   Ending     what a stage says of the leg
 --   Sound      all of it, of a path
 use Rattle.std.proofs.Common.{◌≡◌, ℕ, suc, ◌*◌, ◌^◌, ◌<◌, ◌≤◌, T as Holds, List, [], ◌∷◌, length, refl, ap, subst, mul-le-mul_right, arith}
-use Rattle.std.specs.List.{AllByRecursion as All}
+use Rattle.std.specs.List.{AllByRecursion}
 use Rattle.mesh.specs.Range.{most, fit_goods, fit_mesh}
 use Rattle.labelling.specs.Labels.{Rule}
 use Rattle.cells.specs.Corners.{real_wall}
@@ -29,7 +29,7 @@ module _ (T : (g D : ℕ) → Mesh Shape g D) (L : Rule) (o : Opening) where
   pub record Sound (p : Path) : Type 0 where
     pub goods : Holds (fit_goods o.goods)
     pub leg : OnTrail p.leg
-    pub earlier : All OnTrail p.earlier
+    pub earlier : AllByRecursion OnTrail p.earlier
     pub ending : Ending p.leg p.stage
     -- before the latest leg on the mesh D at most D^g cells were entered
     pub past : entries p.earlier ≤ p.leg.mesh ^ o.goods

@@ -1,6 +1,6 @@
 -- The claim holds of every path, and an opening with its calls has one path.
 use Rattle.std.proofs.Common.{◌≡◌, ℕ, ◌≤◌, List, [], ◌∷◌, sym, ◌∙◌, subst, arith}
-use Rattle.std.specs.List.{AllByRecursion as All}
+use Rattle.std.specs.List.{AllByRecursion}
 use Rattle.labelling.specs.Labels.{Rule}
 use Rattle.cells.specs.Triangulation.{Shape, Mesh, Lawful}
 use Rattle.path.specs.Claim.{Claim}
@@ -23,7 +23,7 @@ module _ (T : (g D : ℕ) → Mesh Shape g D) (L : Rule) (o : Opening) (lawful :
   pub claimed : (calls : List Call) (p : Path) → Leads T L o calls p → Claim T L o p
   claimed calls p h =
       let s = sound T L o lawful calls p h in
-      let on : All (OnTrail T L o) (legs p) = (s.leg, s.earlier) in
+      let on : AllByRecursion (OnTrail T L o) (legs p) = (s.leg, s.earlier) in
       let once = all-single T L o lawful (legs p) s.goods on in
       record {
         once = once;

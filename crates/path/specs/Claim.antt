@@ -5,7 +5,7 @@
 --   ArrivedCell      the corners that an arrived cell keeps
 --   Claim            all of it
 use Rattle.std.specs.Prelude.{◌≡◌, ℕ, ◌+◌, ◌≤◌, ◌⊎◌, List, [], ◌∷◌, length, sum, ◌≢◌}
-use Rattle.std.specs.List.{AllByRecursion as All}
+use Rattle.std.specs.List.{AllByRecursion}
 use Rattle.mesh.specs.Prices.{to_levels}
 use Rattle.labelling.specs.Labels.{Rule, Proper}
 use Rattle.cells.specs.Corners.{real_wall, On}
@@ -54,12 +54,12 @@ module _ (T : (g D : ℕ) → Mesh Shape g D) (L : Rule) (o : Opening) where
 
   pub record Claim (p : Path) : Type 0 where
     -- no cell is entered twice on a mesh
-    pub once : All (λ l. Single (entered l)) (legs p)
+    pub once : AllByRecursion (λ l. Single (entered l)) (legs p)
     -- the count is the number of different cells on the latest mesh, and the total is the sum of these numbers over all meshes
     pub count : Different (entered p.leg) (count_of p)
     pub total : DifferentIn (legs p) (total_of p)
     -- on no mesh are there more than (D + 1)^g - D^g
-    pub bounded : All (λ l. length (entered l) ≤ bound o.goods l.mesh) (legs p)
+    pub bounded : AllByRecursion (λ l. length (entered l) ≤ bound o.goods l.mesh) (legs p)
     -- after so many granted steps the walk on the mesh has ended
     pub ends : bound o.goods p.leg.mesh ≤ p.leg.steps → Ended p
     -- a walk that is no longer walking has ended in one of the two ways

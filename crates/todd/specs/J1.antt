@@ -1,7 +1,7 @@
 -- Todd's J1. A cell is a base with odd levels, an order of the levels, and a direction for each level. The corner at place 0 is the base; the
 -- corner at place k is the one before it with the k-th level of the order moved by one in its direction.
 use Rattle.std.specs.Prelude.{◌≡◌, ℕ, zero, suc, ◌-◌, ◌%◌, ◌≤◌, Bool, true, false, cond, not, ◌&&◌, List, [], ◌∷◌, map, length, take, replicate, ◌==◌, slice_index_or, slice_set}
-use Rattle.std.specs.List.{AllByRecursion as All}
+use Rattle.std.specs.List.{AllByRecursion}
 use Rattle.mesh.specs.Prices.{to_levels}
 use Rattle.cells.specs.Corners.{Corner}
 use Rattle.cells.specs.Triangulation.{Shape, Across, moved, Mesh}
@@ -17,7 +17,7 @@ j1_corner s (suc k) = shift (upward s (nth s.order (suc k))) (j1_corner s k) (nt
 
 pub record J1Cell (g D : ℕ) (s : Shape) : Type 0 where
   pub size : length s.base ≡ g
-  pub odd : All (λ u. u % 2 ≡ 1) s.base
+  pub odd : AllByRecursion (λ u. u % 2 ≡ 1) s.base
   pub order : IsOrder g s.order
   pub directions : length s.ups ≡ g
   pub corners : (k : ℕ) → k ≤ g → Corner g D (j1_corner s k)

@@ -1,7 +1,7 @@
 -- The laws of a triangulation whose cells are members of the family.
 use Rattle.std.specs.Prelude.{◌≡◌, ℕ, suc, ◌-◌, ◌<◌, ◌≤◌, Bool, map, length, slice_index}
 use Rattle.std.proofs.Common.{sym, ◌∙◌, ap, subst, arith}
-use Rattle.std.specs.List.{AllByRecursion as All}
+use Rattle.std.specs.List.{AllByRecursion}
 use Rattle.std.proofs.lemmas.List.{get_or-map, length-map}
 use Rattle.std.proofs.ByRecursion.{All-from_get_or}
 use Rattle.cells.specs.Corners.{Corner, Apart}
@@ -51,7 +51,7 @@ module _ {g D : ℕ} (up : ℕ → Bool) (M : Mesh Shape g D) (member : Member u
       let l = member.listed a c in
       ap (λ v. slice_index v k) (member.address_is a l) ∙ get_or-map (λ j. (family a).lo (j - 1)) a.order k 0 0 (omega (arith, l.order.size))
 
-  pub address_small : (a : Shape) → M.is_cell a → All (λ n. n ≤ D) (M.address a)
+  pub address_small : (a : Shape) → M.is_cell a → AllByRecursion (λ n. n ≤ D) (M.address a)
   address_small a c = All-from_get_or (λ n. n ≤ D) (M.address a) 0
       (λ k h. let l : k < g = omega (arith, address_size a c) in omega (arith, address-at a c k l, laws.address_small g D up some (family a) (valid a c) k l))
 

@@ -1,7 +1,7 @@
 -- K1 and J1 are members of the family, with their start points.
 use Rattle.std.specs.Prelude.{◌≡◌, ℕ, zero, suc, ◌+◌, ◌-◌, ◌%◌, ◌<◌, Bool, true, false, cond, ◌&&◌, T, List, [], ◌∷◌, map, length, take, sum, ◌==◌, nat_eq, slice_index, slice_index_or, refl}
 use Rattle.std.proofs.Common.{sym, ◌∙◌, ap, subst, arith}
-use Rattle.std.specs.List.{AllByRecursion as All}
+use Rattle.std.specs.List.{AllByRecursion}
 use Rattle.std.proofs.lemmas.Bool.{and_parts, and_from, eqb-true, eq-eqb}
 use Rattle.std.proofs.lemmas.List.{get_or-take, length-take}
 use Rattle.std.proofs.ByRecursion.{All-take}
@@ -70,7 +70,7 @@ even-at [] e j h = absurd (omega arith)
 even-at (x ∷ xs) e zero h = eqb-true (x % 2) 0 (and_parts (x % 2 == 0) (all_even xs) e).0
 even-at (x ∷ xs) e (suc j) h = even-at xs (and_parts (x % 2 == 0) (all_even xs) e).1 j (omega arith)
 
-all-even : (c : List ℕ) → All (λ x. x % 2 ≡ 0) c → all_even c ≡ true
+all-even : (c : List ℕ) → AllByRecursion (λ x. x % 2 ≡ 0) c → all_even c ≡ true
 all-even [] a = refl
 all-even (x ∷ xs) a = and_from (x % 2 == 0) (all_even xs) (eq-eqb (x % 2) 0 a.0) (all-even xs a.1)
 
@@ -102,6 +102,6 @@ j1-begins g D = record {
     parts : (c : List ℕ) → T (is_point g D c && all_even (take (g - 1) c)) → (is_point g D c ≡ true) × (all_even (take (g - 1) c) ≡ true)
     parts c t = and_parts (is_point g D c) (all_even (take (g - 1) c)) (t_true (is_point g D c && all_even (take (g - 1) c)) t)
 
-pub j1-even : (g D : ℕ) (c : List ℕ) → length c ≡ g → sum c ≡ D → All (λ x. x % 2 ≡ 0) c → T (is_point g D c && all_even (take (g - 1) c))
+pub j1-even : (g D : ℕ) (c : List ℕ) → length c ≡ g → sum c ≡ D → AllByRecursion (λ x. x % 2 ≡ 0) c → T (is_point g D c && all_even (take (g - 1) c))
 j1-even g D c p q a = true-t (is_point g D c && all_even (take (g - 1) c))
     (and_from (is_point g D c) (all_even (take (g - 1) c)) (is-point g D c p q) (all-even (take (g - 1) c) (All-take (λ x. x % 2 ≡ 0) (g - 1) c a)))

@@ -1,7 +1,7 @@
 -- K1 and J1 keep the laws of a triangulation.
 use Rattle.std.specs.Prelude.{◌≡◌, ℕ, ◌%◌, ◌≤◌, Bool, true, T, List, length, sum, ◌==◌}
 use Rattle.std.proofs.Common.{arith}
-use Rattle.std.specs.List.{AllByRecursion as All}
+use Rattle.std.specs.List.{AllByRecursion}
 use Rattle.cells.specs.Triangulation.{Shape, Mesh, Lawful}
 use Rattle.todd.specs.K1.{k1}
 use Rattle.todd.specs.J1.{j1}
@@ -18,7 +18,7 @@ use Rattle.todd.specs.CrossK1 as in-k1
 use Rattle.todd.specs.CrossJ1 as in-j1
 
 lawful : {g D : ℕ} (up : ℕ → Bool) (b : Bool) (M : Mesh Shape g D) → Member up M → Begins up b M → Crosses up M → 1 ≤ g
-    → ((c : List ℕ) → length c ≡ g → sum c ≡ D → D % 2 ≡ 0 → All (λ x. x % 2 ≡ 0) c → T (M.admitted c)) → Lawful M
+    → ((c : List ℕ) → length c ≡ g → sum c ≡ D → D % 2 ≡ 0 → AllByRecursion (λ x. x % 2 ≡ 0) c → T (M.admitted c)) → Lawful M
 lawful {g} {D} up b M member begins crosses some even = record {
   corners = laws.corners up M member some;
   different = laws.different up M member some;

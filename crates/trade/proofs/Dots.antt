@@ -2,7 +2,7 @@
 --   dot-more     a loop's step
 --   dot-bound, dot-bound-more    how large the sum can be, at the end and on the way
 use Rattle.std.proofs.Common.{◌≡◌, ℕ, zero, suc, ◌+◌, ◌*◌, ◌<◌, ◌≤◌, List, [], ◌∷◌, length, get_or, take, sum, sym, ap, ◌∙◌, subst, mul-le-mul_right, add-mul, mul-le-mul_left, add-one, arith}
-use Rattle.std.specs.List.{AllByRecursion as All}
+use Rattle.std.specs.List.{AllByRecursion}
 use Rattle.std.proofs.lemmas.List.Sums.{sum_by-cons, sum_by-take-le}
 use Rattle.trade.specs.Trade.{dot}
 
@@ -17,7 +17,7 @@ pub dot-more : (xs ys : List ℕ) (i : ℕ) → i < length xs → i < length ys 
 dot-more xs ys i low high = rw add-one (at_suc xs ys i low high)
 
 -- With entries of at most m on one side, the sum is at most m times the other.
-pub dot-bound : (m : ℕ) (xs ys : List ℕ) → All (λ y. y ≤ m) ys → dot xs ys ≤ sum xs * m
+pub dot-bound : (m : ℕ) (xs ys : List ℕ) → AllByRecursion (λ y. y ≤ m) ys → dot xs ys ≤ sum xs * m
 dot-bound m [] ys all = omega arith
 dot-bound m (x ∷ xs) [] all = omega arith
 dot-bound m (x ∷ xs) (y ∷ ys) all =
@@ -27,7 +27,7 @@ dot-bound m (x ∷ xs) (y ∷ ys) all =
     subst (λ n. x * y + dot xs ys ≤ n) (sym split) (omega arith)
 
 -- So is the sum on the way, with the next product added.
-pub dot-bound-more : (m : ℕ) (xs ys : List ℕ) (i : ℕ) → i < length xs → i < length ys → All (λ y. y ≤ m) ys → dot (take i xs) ys + get_or xs i 0 * get_or ys i 0 ≤ sum xs * m
+pub dot-bound-more : (m : ℕ) (xs ys : List ℕ) (i : ℕ) → i < length xs → i < length ys → AllByRecursion (λ y. y ≤ m) ys → dot (take i xs) ys + get_or xs i 0 * get_or ys i 0 ≤ sum xs * m
 dot-bound-more m xs ys i low high all =
     let step = dot-more xs ys i low high in
     let bound = dot-bound m (take (i + 1) xs) ys all in

@@ -4,7 +4,7 @@
 --   label-exists, label-determined    the two laws
 use Rattle.std.proofs.Common.{◌≡◌, ℕ, ◌+◌, ◌*◌, ◌<◌, ◌≤◌, true, false, ◌&&◌, ltb, leb, List, length, pos, ◌-ℤ◌, ◌≤ℤ◌, ◌<ℤ◌, sum, sym, ap, ◌∙◌, subst, ⊎_elim, arith}
 use lib.Signed.{le_z, clash_ℤ}
-use Rattle.std.specs.List.{AllByRecursion as All}
+use Rattle.std.specs.List.{AllByRecursion}
 use Rattle.std.proofs.lemmas.Int.{ints}
 use Rattle.std.proofs.lemmas.Bool.Decides.{nat_tests}
 use Rattle.std.proofs.lemmas.Bool.{ltb-true, ltb-false, leb-true, leb-false, and_parts, and_cases, cases_lt, cases_order}
@@ -58,7 +58,7 @@ no-surplus S ts x j fails =
     (cases_lt 0 (price x j))
 
 -- Some good clears, else more would be spent than there is.
-some-clears : (g S : ℕ) (ts : List Trader) (x : List ℕ) → All (Fair g S) ts → length x ≡ g → 0 < sum x → Fails g 0 (clears S ts x) → ⊥
+some-clears : (g S : ℕ) (ts : List Trader) (x : List ℕ) → AllByRecursion (Fair g S) ts → length x ≡ g → 0 < sum x → Fails g 0 (clears S ts x) → ⊥
 some-clears g S ts x fair e some fails =
     let same = markets-balance g S ts x fair e in
     let prices : sum_over g 0 (price x) ≡ sum x = subst (λ n. sum_over n 0 (price x) ≡ sum x) e (sum_over-price x) in

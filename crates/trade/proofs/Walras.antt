@@ -3,7 +3,7 @@
 --   markets-balance              they are the same
 --   excesses-cancel              said of the excesses
 use Rattle.std.proofs.Common.{◌≡◌, ℕ, zero, suc, ◌+◌, ◌*◌, List, [], ◌∷◌, map, length, ℤ, pos, ◌+ℤ◌, ◌-ℤ◌, fold, sum_by, sum, sym, ap, ◌∙◌, subst, mul_assoc, mul_comm, mul-add, arith}
-use Rattle.std.specs.List.{AllByRecursion as All}
+use Rattle.std.specs.List.{AllByRecursion}
 use Rattle.std.proofs.lemmas.List.Sums.{sum_by-cons}
 use Rattle.std.proofs.lemmas.Int.{ints}
 use Rattle.mesh.specs.Prices.{price}
@@ -32,7 +32,7 @@ one-owner : (S : ℕ) (x : List ℕ) (t : Trader) (ts : List Trader) (j : ℕ) �
 one-owner S x t ts j = ap (λ n. S * price x j * n) (sum_by-cons (λ u. price u.owns j) t ts) ∙ spread S (price x j) (price t.owns j) (owned_in_all ts j)
 
 -- All that is spent.
-pub demands-add : (g S : ℕ) (ts : List Trader) (x : List ℕ) → All (Fair g S) ts → sum_over g 0 (demand ts x) ≡ S * sum_by (income x) ts
+pub demands-add : (g S : ℕ) (ts : List Trader) (x : List ℕ) → AllByRecursion (Fair g S) ts → sum_over g 0 (demand ts x) ≡ S * sum_by (income x) ts
 demands-add g S [] x fair = sum_over-none g 0 ∙ omega arith
 demands-add g S (t ∷ ts) x fair =
     let mine : ℕ → ℕ = λ j. price t.weighs j * income x t in
@@ -43,7 +43,7 @@ demands-add g S (t ∷ ts) x fair =
     split ∙ parts ∙ omega (arith, one, rest) ∙ sym (one_more S x t ts)
 
 -- All that there is.
-pub supplies-add : (g S : ℕ) (ts : List Trader) (x : List ℕ) → All (Fair g S) ts → length x ≡ g → sum_over g 0 (supply S ts x) ≡ S * sum_by (income x) ts
+pub supplies-add : (g S : ℕ) (ts : List Trader) (x : List ℕ) → AllByRecursion (Fair g S) ts → length x ≡ g → sum_over g 0 (supply S ts x) ≡ S * sum_by (income x) ts
 supplies-add g S [] x fair e = sum_over-same (supply S [] x) (λ j. 0) (λ i. omega arith) g 0 ∙ sum_over-none g 0 ∙ omega arith
 supplies-add g S (t ∷ ts) x fair e =
     let mine : ℕ → ℕ = λ j. price x j * price t.owns j in
@@ -54,7 +54,7 @@ supplies-add g S (t ∷ ts) x fair e =
     split ∙ parts ∙ omega (arith, one, rest) ∙ sym (one_more S x t ts)
 
 -- As much is spent in all as there is to buy.
-pub markets-balance : (g S : ℕ) (ts : List Trader) (x : List ℕ) → All (Fair g S) ts → length x ≡ g → sum_over g 0 (demand ts x) ≡ sum_over g 0 (supply S ts x)
+pub markets-balance : (g S : ℕ) (ts : List Trader) (x : List ℕ) → AllByRecursion (Fair g S) ts → length x ≡ g → sum_over g 0 (demand ts x) ≡ sum_over g 0 (supply S ts x)
 markets-balance g S ts x fair e = demands-add g S ts x fair ∙ sym (supplies-add g S ts x fair e)
 
 -- Differences added one by one are the difference of the sums.

@@ -6,7 +6,7 @@
 --   market_label         the smallest good that has a price and is not short
 --   Labels              what that label is, as a relation
 use Rattle.std.specs.Prelude.{◌≡◌, ℕ, zero, suc, ◌+◌, ◌*◌, ◌<◌, ◌≤◌, Bool, cond, ◌&&◌, List, [], ◌∷◌, map, length, ℤ, pos, ◌+ℤ◌, ◌-ℤ◌, ◌≤ℤ◌, ◌<ℤ◌, fold, sum_by, sum, int_le, nat_lt}
-use Rattle.std.specs.List.{AllByRecursion as All}
+use Rattle.std.specs.List.{AllByRecursion}
 use Rattle.mesh.specs.Prices.{price}
 
 -- What a trader owns of each good, and how it weighs each.
@@ -75,7 +75,7 @@ goods_from j (suc n) = suc j ∷ goods_from (suc j) n
 -- The excesses of all goods add up to nought.
 abbrev pub ExcessesCancel : Type 0
 ExcessesCancel =
-    (g S : ℕ) (ts : List Trader) (x : List ℕ) → All (Fair g S) ts → length x ≡ g
+    (g S : ℕ) (ts : List Trader) (x : List ℕ) → AllByRecursion (Fair g S) ts → length x ≡ g
     → fold ◌+ℤ◌ (pos 0) (map (excess S ts x) (goods_from 0 g)) ≡ pos 0
 
 -- No good without a price has an excess below 0.
@@ -85,7 +85,7 @@ FreeGoodsNotInSurplus = (S : ℕ) (ts : List Trader) (x : List ℕ) (j : ℕ) �
 -- Where some good has a price, the label exists, and is what it should be.
 abbrev pub LabelExists : Type 0
 LabelExists =
-    (g S : ℕ) (ts : List Trader) (x : List ℕ) → All (Fair g S) ts → length x ≡ g → 0 < sum x → Labels g S ts x (market_label g S ts x)
+    (g S : ℕ) (ts : List Trader) (x : List ℕ) → AllByRecursion (Fair g S) ts → length x ≡ g → 0 < sum x → Labels g S ts x (market_label g S ts x)
 
 -- There is one label at most.
 abbrev pub LabelDetermined : Type 0
