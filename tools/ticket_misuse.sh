@@ -54,7 +54,7 @@ refuses() {
     if check > "$work/log"; then
         echo "ticket: $2: NOT REFUSED"
         failed=1
-    elif grep -q "ticket_use/src/lib.rt:.*error\[$3\].*$4" "$work/log" && ! grep 'error' "$work/log" | grep -qv "ticket_use/src/lib.rt:.*error\[$3\]"; then
+    elif grep -q "^src/lib.rt:.*error\[$3\].*$4" "$work/log" && ! grep 'error' "$work/log" | grep -qv "^src/lib.rt:.*error\[$3\]"; then
         echo "ticket: $2: refused, as it must be ($3)"
     else
         echo "ticket: $2: REFUSED FOR ANOTHER REASON"

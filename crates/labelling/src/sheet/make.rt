@@ -1,12 +1,9 @@
 // Making a sheet, and its labels.
-ghost use Rattle.std.specs.Prelude.{◌≡◌, ℕ, ◌+◌, ◌≤◌, ◌&&◌, length, take, drop, sum, ◌==◌, slice_index};
+ghost use Rattle.std.specs.Prelude.{◌≡◌, ℕ, ◌≤◌, length, take, drop, sum, slice_index};
 ghost use Rattle.labelling.specs.Sheets.{sheet_of, sheet_for, rule_of};
 ghost use Rattle.mesh.specs.Points.{prices_of};
 ghost use Rattle.mesh.specs.Refusals.{answered};
-ghost use Rattle.std.proofs.Common.{arith};
-ghost use Rattle.std.proofs.lemmas.Bool.{cond_both};
-ghost use Rattle.mesh.specs.Prices.{to_levels};
-ghost use Rattle.labelling.specs.Bytes.{take-bytes};
+ghost use Rattle.labelling.specs.Bytes.{sheet-byte};
 
 use super::Sheet;
 use crate::Labelling;
@@ -52,10 +49,7 @@ impl Sheet {
 impl Labelling for Sheet {
     ghost rule = { rule_of };
 
-    // A label is 0 or a byte of the sheet.
-    ghost small = { λ s g D x.
-        cond_both (g == 2 && D == s.mesh) (slice_index (take (s.mesh + 1) s.labels) (slice_index (to_levels x) 1)) 0 (λ n. n ≤ 255)
-        (λ e. take-bytes (s.mesh + 1) s.labels s.bytes (slice_index (to_levels x) 1)) (λ e. omega arith) };
+    ghost small = { λ s g D x. sheet-byte s g D x };
 
     fn label(&self, point: &PricePoint) -> u8 {
         if point.goods() != 2 || point.mesh() != self.mesh {
