@@ -151,6 +151,10 @@ module _ (d : Grid) (c : Cell) where
   pub j1-at-first : (i : ℕ) → i ≡ 0 → j1_across d.goods d.mesh (shape_of d.goods c) i ≡ j1_first_across d c
   j1-at-first i e = cond-true (eqb i 0) _ _ (eq-eqb i 0 e)
 
+  pub j1-at-last : j1_across d.goods d.mesh (shape_of d.goods c) d.goods ≡ j1_last_across d c
+  j1-at-last =
+      cond-false (eqb d.goods 0) _ _ (ne_eqb d.goods 0 (λ e. omega (arith, d.goods_fit.0))) ∙ cond-true (eqb d.goods d.goods) _ _ (eq-eqb d.goods d.goods refl)
+
   pub j1-at-middle : (i : ℕ) → (i ≡ 0 → ⊥) → (i ≡ d.goods → ⊥) → j1_across d.goods d.mesh (shape_of d.goods c) i ≡ middle_across d c i
   j1-at-middle i no-first no_last = cond-false (eqb i 0) _ _ (ne_eqb i 0 no-first) ∙ cond-false (eqb i d.goods) _ _ (ne_eqb i d.goods no_last)
 

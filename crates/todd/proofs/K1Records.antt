@@ -1,6 +1,6 @@
 -- K1 on records of cells.
 use Rattle.std.proofs.Common.{◌≡◌, ℕ, suc, ◌-◌, ◌<◌, ◌≤◌, true, false, eqb, List, length, get_or, take, Some, None, Ok, Option, sym, refl, ap, ◌∙◌, subst, arith}
-use Rattle.std.proofs.lemmas.Bool.{ne_eqb, cond-false}
+use Rattle.std.proofs.lemmas.Bool.{eq-eqb, ne_eqb, cond-true, cond-false}
 use Rattle.mesh.specs.declared.grid.Grid.{Grid}
 use Rattle.cells.specs.Triangulation.{Shape, Across, moved}
 use Rattle.cells.specs.Cells.{shape_of, crossing, Reached, CornerAnswer, AcrossAnswer}
@@ -82,6 +82,11 @@ module _ (d : Grid) (c : Cell) where
         refl
         in
         cross-moved g c _ g _ _ _ (sym at ∙ last-stop is tells) e
+
+  -- What lies across the last place.
+  pub across-last : k1_across d.goods d.mesh (shape_of d.goods c) d.goods ≡ k1_last_across d c
+  across-last =
+      cond-false (eqb d.goods 0) _ _ (ne_eqb d.goods 0 (λ e. omega (arith, d.goods_fit.0))) ∙ cond-true (eqb d.goods d.goods) _ _ (eq-eqb d.goods d.goods refl)
 
   -- What lies across a place between.
   pub across-middle : HoldsK1 d c → (i : ℕ) → (i ≡ 0 → ⊥) → (i ≡ d.goods → ⊥)

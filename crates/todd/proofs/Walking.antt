@@ -1,6 +1,6 @@
 -- One step of the loop that goes through the corners of a cell, and one level of a corner.
 use Rattle.std.proofs.Common.{◌≡◌, ℕ, zero, suc, ◌+◌, ◌-◌, ◌<◌, ◌≤◌, Bool, true, false, cond, leb, ◌≢◌, List, [], ◌∷◌, length, get_or, take, set, sym, refl, ap, ◌∙◌, ⊎_elim, add-one, arith}
-use Rattle.std.proofs.lemmas.List.{get_or-take, get_or_past, length-take}
+use Rattle.std.proofs.lemmas.List.{get_or-take, get_or_past, get_or_default, length-take}
 use Rattle.std.proofs.lemmas.Bool.{cond_both}
 use Rattle.mesh.specs.Prices.{first, Falls}
 use Rattle.mesh.specs.declared.grid.Grid.{Grid}
@@ -61,6 +61,10 @@ module _ (d : Grid) (c : Cell) (holds : Holds d c) where
   level-room k j h = omega (arith, corner-small d.goods d.mesh (corner_at d c k) (holds.corners k h) (j - 1), mesh-small d)
 
 -- One more level of the order moves.
+-- The direction of a level that there is, whatever stands for the others.
+pub same_way : (ups : List Bool) (j : ℕ) → 1 ≤ j → j ≤ length ups → get_or ups (j - 1) false ≡ get_or ups (j - 1) true
+same_way ups j low high = get_or_default ups _ _ _ (omega arith)
+
 pub corner-step : (d : Grid) (c : Cell) (k : ℕ) (levels after : List ℕ) (j : ℕ) (up : Bool) → Holds d c → k < d.goods → j ≡ get_or c.order k 0
     → take d.goods levels ≡ corner_at d c k → (1 ≤ j → j ≤ 8 → j ≤ length c.ups → up ≡ get_or c.ups (j - 1) true) → length levels ≡ 8
     → (1 ≤ j → j ≤ length levels → level levels j < 4294967295 → after ≡ shift up levels j) → take d.goods after ≡ corner_at d c (k + 1)

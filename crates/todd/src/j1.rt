@@ -1,5 +1,7 @@
 // Todd's J1.
-ghost use Rattle.std.specs.Prelude.{◌≡◌, ℕ, ◌-◌, ◌<◌, ◌≤◌, true, not, length, slice_index, slice_index_or, slice_set};
+ghost use Rattle.std.specs.Prelude.{◌≡◌, ℕ, ◌-◌, ◌%◌, ◌<◌, ◌≤◌, true, not, length, Ok, ◌==◌, slice_index, slice_index_or, slice_set};
+ghost use Rattle.mesh.specs.Points.{goods_of, mesh_of, prices_of};
+ghost use Rattle.cells.specs.Cells.{shape_of, AcrossAnswer};
 ghost use Rattle.todd.specs.J1.{j1, all_even};
 ghost use Rattle.todd.specs.Walk.{Crosses, Holds, j1_first_across, j1_last_across, Raised};
 ghost use Rattle.todd.specs.Triangulations.{j1-lawful};
@@ -29,7 +31,8 @@ fn turn(cell: &mut Cell, j: usize)
 
 // Crosses a cell at the first place: the first level of the order moves by two in its direction, which turns round.
 fn cross_first(grid: &Grid, cell: &mut Cell) -> (u8, u8)
-    ensures { Holds grid.now cell.old → Crosses grid.now.goods cell.old 0 (j1_first_across grid.now cell.old) result cell.new }
+    ensures crosses { Holds grid.now cell.old → Crosses grid.now.goods cell.old 0 (j1_first_across grid.now cell.old) result cell.new }
+    ensures answer { AcrossAnswer (j1 grid.now.goods grid.now.mesh) cell.old 0 (Ok result) cell.new }
 {
     let j = cell.order[0] as usize;
     let up = upward(cell, j);
@@ -47,7 +50,8 @@ fn cross_first(grid: &Grid, cell: &mut Cell) -> (u8, u8)
 
 // Crosses a cell at the last place: the direction of the last level of the order turns round.
 fn cross_last(grid: &Grid, cell: &mut Cell) -> (u8, u8)
-    ensures { Holds grid.now cell.old → Crosses grid.now.goods cell.old grid.now.goods (j1_last_across grid.now cell.old) result cell.new }
+    ensures crosses { Holds grid.now cell.old → Crosses grid.now.goods cell.old grid.now.goods (j1_last_across grid.now cell.old) result cell.new }
+    ensures answer { AcrossAnswer (j1 grid.now.goods grid.now.mesh) cell.old grid.now.goods (Ok result) cell.new }
 {
     let goods = grid.goods();
     let j = cell.order[goods - 1] as usize;
@@ -60,16 +64,32 @@ fn cross_last(grid: &Grid, cell: &mut Cell) -> (u8, u8)
     (goods as u8, 0)
 }
 
+// The number is even.
+fn is_even(n: u32) -> bool
+    ensures { result ≡ (n % 2 == 0) }
+{
+    n % 2 == 0
+}
+
 // All the numbers are even.
 fn all_even(numbers: &[u32]) -> bool
     ensures { result ≡ all_even numbers.now }
 {
     for i in 0..numbers.len() {
-        if numbers[i] % 2 != 0 {
+        if !is_even(numbers[i]) {
             return false;
         }
     }
     true
+}
+
+// A walk may start at the point: all its prices but the last are even.
+fn admits(point: &PricePoint) -> bool
+    ensures { result ≡ (j1 (goods_of point.now) (mesh_of point.now)).admitted (prices_of point.now) }
+{
+    let goods = point.goods();
+    let prices = point.prices();
+    all_even(&prices[0..goods - 1])
 }
 
 // Each level and one.
@@ -83,6 +103,14 @@ fn raised(levels: &[u32; 8]) -> [u32; 8]
     out
 }
 
+// The number at k of those from the goods down to 1.
+fn counted_down(goods: usize, k: usize) -> u8
+    requires { (goods ≤ 8) × (k < goods) }
+    ensures { result ≡ goods - k }
+{
+    (goods - k) as u8
+}
+
 // The numbers from the goods down to 1.
 fn falling(goods: usize) -> [u8; 8]
     requires { goods ≤ 8 }
@@ -90,9 +118,23 @@ fn falling(goods: usize) -> [u8; 8]
 {
     let mut order = [0u8; 8];
     for k in 0..goods {
-        order[k] = (goods - k) as u8;
+        order[k] = counted_down(goods, k);
     }
     order
+}
+
+// The start cell of a point of an even mesh: its base is one above the point in each level, and all levels go down, the last one first.
+fn start_down(point: &PricePoint) -> Cell
+    ensures { mesh_of point.now % 2 ≡ 0 → shape_of (goods_of point.now) result ≡ (j1 (goods_of point.now) (mesh_of point.now)).start (prices_of point.now) }
+{
+    let levels = point.levels();
+    let base = raised(&levels);
+    let order = falling(point.goods());
+    Cell {
+        base,
+        order,
+        ups: [false; 8],
+    }
 }
 
 impl Triangulation for J1 {
@@ -101,26 +143,18 @@ impl Triangulation for J1 {
     ghost lawful = { λ t g D goods mesh. j1-lawful g D goods mesh };
 
     fn start(&self, point: &PricePoint) -> Result<Cell, Refusal> {
-        let goods = point.goods();
-        let prices = point.prices();
-        let even = all_even(&prices[0..goods - 1]);
-        if !even {
+        if !admits(point) {
             return Err(Refusal::NotAdmitted);
         }
-        let levels = point.levels();
-        if point.mesh() % 2 == 1 {
-            return Ok(Cell {
-                base: levels,
-                order: [1, 2, 3, 4, 5, 6, 7, 8],
-                ups: [true; 8],
-            });
+        if is_even(point.mesh()) {
+            return Ok(start_down(point));
         }
-        let base = raised(&levels);
-        let order = falling(goods);
+        // The point is the base, and all levels go up from there.
+        let base = point.levels();
         Ok(Cell {
             base,
-            order,
-            ups: [false; 8],
+            order: [1, 2, 3, 4, 5, 6, 7, 8],
+            ups: [true; 8],
         })
     }
 

@@ -1,5 +1,6 @@
 // Todd's K1.
-ghost use Rattle.std.specs.Prelude.{◌≡◌, ℕ, ◌≤◌};
+ghost use Rattle.std.specs.Prelude.{Ok};
+ghost use Rattle.cells.specs.Cells.{AcrossAnswer};
 ghost use Rattle.todd.specs.K1.{k1};
 ghost use Rattle.todd.specs.Walk.{Crosses, HoldsK1, k1_first_across, k1_last_across};
 ghost use Rattle.todd.specs.Triangulations.{k1-lawful};
@@ -19,7 +20,8 @@ pub struct K1;
 
 // Crosses a cell at the first place: the first level of the order goes up in the base, and to the end of the order.
 fn cross_first(grid: &Grid, cell: &mut Cell) -> (u8, u8)
-    ensures { HoldsK1 grid.now cell.old → Crosses grid.now.goods cell.old 0 (k1_first_across grid.now cell.old) result cell.new }
+    ensures crosses { HoldsK1 grid.now cell.old → Crosses grid.now.goods cell.old 0 (k1_first_across grid.now cell.old) result cell.new }
+    ensures answer { AcrossAnswer (k1 grid.now.goods grid.now.mesh) cell.old 0 (Ok result) cell.new }
 {
     let goods = grid.goods();
     let j = cell.order[0] as usize;
@@ -37,7 +39,8 @@ fn cross_first(grid: &Grid, cell: &mut Cell) -> (u8, u8)
 
 // Crosses a cell at the last place: the last level of the order goes down in the base, and to the front of the order.
 fn cross_last(grid: &Grid, cell: &mut Cell) -> (u8, u8)
-    ensures { HoldsK1 grid.now cell.old → Crosses grid.now.goods cell.old grid.now.goods (k1_last_across grid.now cell.old) result cell.new }
+    ensures crosses { HoldsK1 grid.now cell.old → Crosses grid.now.goods cell.old grid.now.goods (k1_last_across grid.now cell.old) result cell.new }
+    ensures answer { AcrossAnswer (k1 grid.now.goods grid.now.mesh) cell.old grid.now.goods (Ok result) cell.new }
 {
     let goods = grid.goods();
     let j = cell.order[goods - 1] as usize;

@@ -1,5 +1,8 @@
 // Steps that K1 and J1 share. Every function is safe for any record; what it answers is said for records that are cells.
-ghost use Rattle.std.specs.Prelude.{◌≡◌, ℕ, ◌+◌, ◌-◌, ◌<◌, ◌≤◌, true, false, length, take, if◌then◌else◌, Some, None, slice_index, slice_index_or, slice_set};
+ghost use Rattle.std.specs.Prelude.{◌≡◌, ℕ, ◌+◌, ◌-◌, ◌<◌, ◌≤◌, true, false, length, take, if◌then◌else◌, Some, None, Ok, slice_index, slice_index_or, slice_set};
+ghost use Rattle.cells.specs.Cells.{CornerAnswer, AcrossAnswer};
+ghost use Rattle.todd.specs.K1.{k1};
+ghost use Rattle.todd.specs.J1.{j1};
 ghost use Rattle.todd.specs.Steps.{level, shift, stop};
 ghost use Rattle.todd.specs.Walk.{step, Holds, corner_at, stop_number, Crosses, TurnedLeft, TurnedRight, middle_across};
 
@@ -27,6 +30,7 @@ pub(crate) fn shift_level(levels: &mut [u32], up: bool, j: usize)
 }
 
 // The direction of level j.
+#[tactic(auto, using(crate::proofs::Walking::same_way))]
 pub(crate) fn upward(cell: &Cell, j: usize) -> bool
     ensures { 1 ≤ j → j ≤ 8 → j ≤ length cell.now.ups → result ≡ slice_index_or cell.now.ups (j - 1) true }
 {
@@ -37,16 +41,28 @@ pub(crate) fn upward(cell: &Cell, j: usize) -> bool
     }
 }
 
+// From one corner to the next: the level that the order has at k moves by one in its direction.
+fn to_next_corner(levels: &mut [u32], cell: &Cell, k: usize)
+    requires { k < 8 }
+    ensures { let j = slice_index cell.now.order k in
+        1 ≤ j → j ≤ 8 → j ≤ length cell.now.ups → j ≤ length levels.old → level levels.old j < 4294967295
+        → levels.new ≡ shift (slice_index_or cell.now.ups (j - 1) true) levels.old j }
+{
+    let j = cell.order[k] as usize;
+    let up = upward(cell, j);
+    shift_level(levels, up, j);
+}
+
 // The levels of the corner at a place.
 pub(crate) fn corner_of(grid: &Grid, cell: &Cell, place: usize) -> [u32; 8]
     requires { place ≤ grid.now.goods }
-    ensures { Holds grid.now cell.now → take grid.now.goods result ≡ corner_at grid.now cell.now place }
+    ensures levels { Holds grid.now cell.now → take grid.now.goods result ≡ corner_at grid.now cell.now place }
+    ensures k1 { CornerAnswer (k1 grid.now.goods grid.now.mesh) cell.now place (Ok result) }
+    ensures j1 { CornerAnswer (j1 grid.now.goods grid.now.mesh) cell.now place (Ok result) }
 {
     let mut levels = cell.base;
     for k in 0..place {
-        let j = cell.order[k] as usize;
-        let up = upward(cell, j);
-        shift_level(&mut levels, up, j);
+        to_next_corner(&mut levels, cell, k);
     }
     levels
 }
@@ -170,7 +186,9 @@ fn swap(cell: &mut Cell, place: usize)
 // Crosses a cell at a place between the first and the last.
 pub(crate) fn cross_middle(grid: &Grid, cell: &mut Cell, place: usize) -> (u8, u8)
     requires { (1 ≤ place) × (place < grid.now.goods) }
-    ensures { Holds grid.now cell.old → Crosses grid.now.goods cell.old place (middle_across grid.now cell.old place) result cell.new }
+    ensures crosses { Holds grid.now cell.old → Crosses grid.now.goods cell.old place (middle_across grid.now cell.old place) result cell.new }
+    ensures k1 { AcrossAnswer (k1 grid.now.goods grid.now.mesh) cell.old place (Ok result) cell.new }
+    ensures j1 { AcrossAnswer (j1 grid.now.goods grid.now.mesh) cell.old place (Ok result) cell.new }
 {
     let j = cell.order[place] as usize;
     let up = upward(cell, j);
