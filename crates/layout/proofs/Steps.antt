@@ -5,7 +5,7 @@
 --   one_name, the_sum, one-trader     the bytes of good fields and one more
 --   all-print                         a name that passes the test has printing characters only
 --   economy-bytes                     the file of an economy is the bytes of good fields
--- That what holds of each of some and of one more holds of each is `All-push` of the shelf's Elements.
+-- That what holds of each of some and of one more holds of each is `All-push` of the library.
 use Rattle.std.proofs.Common.{◌≡◌, ℕ, ◌+◌, ◌*◌, ◌/◌, ◌%◌, ◌<◌, ◌≤◌, true, List, [], ◌∷◌, ◌++◌, length, get_or, drop, sym, refl, ap, ◌∙◌, append_assoc, mul_comm, arith}
 use native.Mathlib.Nat.{div-add-mod}
 use lib.Arith.{digits_div, digits_mod}

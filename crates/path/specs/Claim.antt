@@ -1,7 +1,8 @@
 -- What is claimed of every path.
---   Once, Counted    no cell is entered twice; the count and the total are numbers of different cells
---   Ended            the walk on the latest mesh has ended
+--   DifferentIn      the numbers of different cells, added up over the meshes
+--   AllProper        every price point of the mesh is properly labelled
 --   Improper         the newest corner is a price point that is not properly labelled
+--   Ended            the walk on the latest mesh has ended
 --   ArrivedCell      the corners that an arrived cell keeps
 --   Claim            all of it
 use Rattle.std.specs.Prelude.{◌≡◌, ℕ, ◌+◌, ◌≤◌, ◌⊎◌, List, [], ◌∷◌, length, sum, ◌≢◌}

@@ -60,11 +60,11 @@ module _ (d : Grid) (c : Cell) (holds : Holds d c) where
   pub level-room : (k j : ℕ) → k ≤ d.goods → level (corner_at d c k) j < 4294967295
   level-room k j h = omega (arith, corner-small d.goods d.mesh (corner_at d c k) (holds.corners k h) (j - 1), mesh-small d)
 
--- One more level of the order moves.
 -- The direction of a level that there is, whatever stands for the others.
 pub same_way : (ups : List Bool) (j : ℕ) → 1 ≤ j → j ≤ length ups → get_or ups (j - 1) false ≡ get_or ups (j - 1) true
 same_way ups j low high = get_or_default ups _ _ _ (omega arith)
 
+-- One more level of the order moves.
 pub corner-step : (d : Grid) (c : Cell) (k : ℕ) (levels after : List ℕ) (j : ℕ) (up : Bool) → Holds d c → k < d.goods → j ≡ get_or c.order k 0
     → take d.goods levels ≡ corner_at d c k → (1 ≤ j → j ≤ 8 → j ≤ length c.ups → up ≡ get_or c.ups (j - 1) true) → length levels ≡ 8
     → (1 ≤ j → j ≤ length levels → level levels j < 4294967295 → after ≡ shift up levels j) → take d.goods after ≡ corner_at d c (k + 1)
