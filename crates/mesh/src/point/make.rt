@@ -7,6 +7,7 @@ ghost use Rattle.mesh.specs.Refusals.{answered};
 use super::PricePoint;
 use crate::grid::Grid;
 use crate::refusal::Refusal;
+use tables::table_of;
 
 // Eight prices of 32 bits add up to less than 2^64.
 fn total(prices: &[u32]) -> u64
@@ -18,18 +19,6 @@ fn total(prices: &[u32]) -> u64
         sum += u64::from(*price);
     }
     sum
-}
-
-// The prices in a table of their own, with zeros after them.
-fn table_of(prices: &[u32]) -> [u32; 8]
-    requires { length prices.now ≤ 8 }
-    ensures { (length result ≡ 8) × (take (length prices.now) result ≡ prices.now) }
-{
-    let mut table = [0u32; 8];
-    for i in 0..prices.len() {
-        table[i] = prices[i];
-    }
-    table
 }
 
 impl PricePoint {
@@ -44,7 +33,7 @@ impl PricePoint {
         if total(prices) != u64::from(mesh) {
             return Err(Refusal::NotAPricePoint);
         }
-        let prices = table_of(prices);
+        let prices = table_of(prices, 0);
         Ok(PricePoint { grid, prices })
     }
 
