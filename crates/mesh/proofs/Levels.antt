@@ -1,6 +1,6 @@
 -- Prices and levels are two ways to say the same.
 use Rattle.std.proofs.Common.{◌≡◌, ℕ, zero, suc, ◌+◌, ◌-◌, ◌<◌, ◌≤◌, true, false, List, [], ◌∷◌, length, get_or, take, drop, set, sum, sym, refl, ap, ◌∙◌, arith}
-use Rattle.std.proofs.lemmas.List.{drop_all, drop_more, drop-set, get_or-take, length-take}
+use Rattle.std.proofs.lemmas.List.{drop_all, drop_more, drop-set, ext_get_or, get_or-take, length-take, length-take-le}
 use Rattle.std.proofs.lemmas.List.Sums.{sum_by-cons, sum_by-take-drop}
 use Rattle.std.proofs.lemmas.Bool.{and_parts, and_from, and_left, and_right, leb-true, le-leb, lt-leb}
 use Rattle.mesh.specs.Prices.{first, Falls, falls, to_prices, to_levels}
@@ -53,6 +53,14 @@ price-is (u ∷ us) zero = at us
     at [] = refl
     at (v ∷ vs) = refl
 price-is (u ∷ us) (suc j) = let e : suc (j + 1) ≡ suc j + 1 = omega arith in price-is us j ∙ ap (λ n. get_or us j 0 - get_or (u ∷ us) n 0) e
+
+-- A table that has each price has all of them.
+pub prices-are : (u r : List ℕ) → length u ≤ length r → ((k : ℕ) → k < length u → get_or r k 0 ≡ get_or (to_prices u) k 0)
+    → take (length u) r ≡ to_prices u
+prices-are u r room places =
+    let size : length (take (length u) r) ≡ length u = length-take-le (length u) r room in
+    ext_get_or 0 (take (length u) r) (to_prices u) (size ∙ sym (length-prices u))
+    (λ k h. get_or-take (length u) r k 0 (omega arith) ∙ places k (omega arith))
 
 -- The test and the fact.
 pub falls-true : (u : List ℕ) → falls u ≡ true → Falls u

@@ -2,5 +2,7 @@
 #![tactic(auto)]
 
 pub mod grid;
+
 pub mod point;
+pub mod pricing;
 pub mod refusal;

@@ -6,6 +6,7 @@ ghost use Rattle.mesh.specs.Refusals.{answered};
 
 use super::PricePoint;
 use crate::grid::Grid;
+use crate::pricing::{level_at, prices_of};
 use crate::refusal::Refusal;
 
 // No level is above the one before it.
@@ -20,30 +21,11 @@ fn fall(levels: &[u32]) -> bool
     true
 }
 
-// One level; 0 past the last.
-fn level_at(levels: &[u32], j: usize) -> u32
-    ensures { result ≡ slice_index levels.now j }
-{
-    if j < levels.len() { levels[j] } else { 0 }
-}
-
 // So many levels, falling from the mesh.
 fn fit(goods: usize, mesh: u32, levels: &[u32]) -> bool
     ensures { result ≡ levels_fit goods mesh levels.now }
 {
     levels.len() == goods && level_at(levels, 0) == mesh && fall(levels)
-}
-
-// The prices of falling levels, with zeros after them.
-fn differences(levels: &[u32]) -> [u32; 8]
-    requires { (length levels.now ≤ 8) × (Falls levels.now) }
-    ensures { (length result ≡ 8) × (take (length levels.now) result ≡ to_prices levels.now) }
-{
-    let mut prices = [0u32; 8];
-    for j in 0..levels.len() {
-        prices[j] = levels[j] - level_at(levels, j + 1);
-    }
-    prices
 }
 
 impl PricePoint {
@@ -81,7 +63,7 @@ impl PricePoint {
         if !fit(goods, mesh, levels) {
             return Err(Refusal::NotAPricePoint);
         }
-        let prices = differences(levels);
+        let prices = prices_of(levels);
         Ok(PricePoint { grid, prices })
     }
 }
