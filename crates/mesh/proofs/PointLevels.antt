@@ -1,5 +1,5 @@
 -- The levels of a price point, and a price point from levels.
-use Rattle.std.proofs.Common.{◌≡◌, ℕ, ◌+◌, ◌-◌, ◌<◌, ◌≤◌, Bool, true, false, List, [], length, get_or, take, drop, set, Ok, Err, sum, Result, sym, refl, ap, ◌∙◌, arith}
+use Rattle.std.proofs.Common.{◌≡◌, ℕ, ◌<◌, Bool, true, false, List, [], length, get_or, take, drop, Ok, Err, sum, Result, sym, refl, ap, ◌∙◌, arith}
 use Rattle.std.proofs.lemmas.List.{length-take}
 use Rattle.std.proofs.lemmas.Bool.{and_parts, eqb-true}
 use Rattle.mesh.specs.Prices.{first, Falls, to_prices, to_levels}
@@ -7,43 +7,27 @@ use Rattle.mesh.specs.Range.{fit_goods, fit_mesh}
 use Rattle.mesh.specs.Refusals.{Told, insist}
 use Rattle.mesh.specs.Points.{Priced, goods_of, mesh_of, prices_of, grid_for, levels_fit, point_at_levels}
 use Rattle.mesh.specs.declared.point.PricePoint.{PricePoint}
-use Rattle.mesh.proofs.Levels.{levels-turn, levels-end, level-below, levels-sums, prices-levels, falls-levels, falls-true, first-levels, sum-prices, levels-prices}
+use Rattle.mesh.proofs.Levels.{levels-are, prices-levels, falls-levels, falls-true, first-levels, sum-prices, levels-prices}
 
 module _ (p : PricePoint) where
   -- As many prices as goods.
   pub prices-size : length (prices_of p) ≡ goods_of p
   prices-size = length-take (goods_of p) p.prices ∙ omega (arith, p.room, p.grid.goods_fit.1)
 
-  -- Before the first turn of the loop that sums the levels.
-  pub levels-start : (arr : List ℕ) (n : ℕ) → n ≡ goods_of p
-      → (0 ≡ first (to_levels (drop n (prices_of p)))) × (take (goods_of p - n) (drop n arr) ≡ to_levels (drop n (prices_of p)))
-  levels-start arr n e = levels-end (prices_of p) arr n (goods_of p - n) (prices-size ∙ sym e) (omega arith)
-
-  -- One turn of it: t is the sum with one more price.
-  pub levels-go : (arr : List ℕ) (j s t : ℕ) → t ≡ s + get_or p.prices (j - 1) 0 → 0 < j → j ≤ goods_of p → length arr ≡ 8
-      → s ≡ first (to_levels (drop j (prices_of p))) → take (goods_of p - j) (drop j arr) ≡ to_levels (drop j (prices_of p))
-      → (t ≡ first (to_levels (drop (j - 1) (prices_of p))))
-      × (take (goods_of p - (j - 1)) (drop (j - 1) (set arr (j - 1) t)) ≡ to_levels (drop (j - 1) (prices_of p)))
-  levels-go arr j s t is low high size e f =
-      let few = p.grid.goods_fit.1 in
-      rw is (levels-turn p.prices arr (goods_of p) j s low high (omega (arith, p.room)) (omega arith) e f)
-
-  -- A sum of prices is at most the mesh.
-  pub level-small : (i s : ℕ) → s ≡ first (to_levels (drop i (prices_of p))) → s ≤ mesh_of p
-  level-small i s e = omega (arith, level-below (prices_of p) i, p.adds_up)
-
-  -- What is known of the levels.
-  pub levels-known : (r : List ℕ) → take (goods_of p) r ≡ to_levels (prices_of p)
-      → ((j : ℕ) → j < goods_of p → get_or r j 0 ≡ sum (drop j (prices_of p)))
+  -- What is known of a table of these sums.
+  pub levels-known : (r : List ℕ) → length r ≡ 8 → ((j : ℕ) → j < 8 → get_or r j 0 ≡ sum (drop j (prices_of p)))
+      → (take (goods_of p) r ≡ to_levels (prices_of p))
       × (to_prices (take (goods_of p) r) ≡ prices_of p)
       × Falls (take (goods_of p) r)
       × (first (take (goods_of p) r) ≡ mesh_of p)
-  levels-known r e = (
-    levels-sums (prices_of p) r (goods_of p) prices-size e,
-    ap to_prices e ∙ prices-levels (prices_of p),
-    rw e (falls-levels (prices_of p)),
-    ap first e ∙ first-levels (prices_of p) ∙ p.adds_up,
-  )
+  levels-known r room sums =
+      let few = p.grid.goods_fit.1 in
+      let e = levels-are (prices_of p) r (goods_of p) prices-size (omega arith) (λ j h. sums j (omega arith)) in (
+        e,
+        ap to_prices e ∙ prices-levels (prices_of p),
+        rw e (falls-levels (prices_of p)),
+        ap first e ∙ first-levels (prices_of p) ∙ p.adds_up,
+      )
 
 -- What the test of levels tells.
 pub fit-tells : (g D : ℕ) (u : List ℕ) → levels_fit g D u ≡ true → (length u ≡ g) × (first u ≡ D) × Falls u

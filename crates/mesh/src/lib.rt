@@ -2,7 +2,6 @@
 #![tactic(auto)]
 
 pub mod grid;
-
 pub mod point;
 pub mod pricing;
 pub mod refusal;

@@ -4,13 +4,6 @@ ghost use Rattle.mesh.specs.Prices.{to_prices};
 
 use std::array;
 
-// One level; 0 past the last.
-pub(crate) fn level_at(levels: &[u32], j: usize) -> u32
-    ensures { result ≡ slice_index levels.now j }
-{
-    levels.get(j).copied().unwrap_or(0)
-}
-
 // The price that levels give the good after place j: a level less the next, 0 past the last level.
 pub fn price_at(levels: &[u32], j: usize) -> u32
     ensures { result ≡ slice_index levels.now j - slice_index levels.now (j + 1) }
@@ -22,7 +15,7 @@ pub fn price_at(levels: &[u32], j: usize) -> u32
     }
 }
 
-// The prices that levels give, with zeros after them. Only up to eight levels count.
+// The first eight prices that levels give, with zeros after them.
 pub fn prices_of(levels: &[u32]) -> [u32; 8]
     ensures size { length result ≡ 8 }
     ensures entries { (j : ℕ) → j < 8 → slice_index result j ≡ slice_index (to_prices levels.now) j }

@@ -1,7 +1,7 @@
 -- Tables that `from_fn` and `map` make, where each call of the closure gives a known value and changes nothing.
 --   made      each entry is the value at its place
 --   mapped    each entry is the value at the entry of the other table
-use Rattle.std.proofs.Common.{◌≡◌, ℕ, zero, suc, ◌+◌, ◌<◌, ◌≤◌, List, length, get_or, refl, ◌∙◌, ⊎_elim, arith}
+use Rattle.std.proofs.Common.{◌≡◌, ℕ, zero, suc, ◌+◌, ◌<◌, ◌≤◌, List, get_or, refl, ◌∙◌, ⊎_elim, arith}
 use Rattle.std.specs.Array.{IsFromFnResult, IsFromFnResultFrom, IsMapOf, MapsFrom}
 use Rattle.std.specs.Fn.{Mut, Called}
 use Rattle.std.proofs.lemmas.Bool.{cases_lt}

@@ -14,11 +14,7 @@ fn total(prices: &[u32]) -> u64
     requires { length prices.now ≤ 8 }
     ensures { result ≡ sum prices.now }
 {
-    let mut sum = 0u64;
-    for price in prices {
-        sum += u64::from(*price);
-    }
-    sum
+    prices.iter().map(|price| u64::from(*price)).sum()
 }
 
 impl PricePoint {
@@ -40,8 +36,7 @@ impl PricePoint {
     pub fn grid(&self) -> Grid
         ensures { result ≡ self.now.grid }
     {
-        let PricePoint { grid, .. } = *self;
-        grid
+        self.grid
     }
 
     pub fn goods(&self) -> usize
@@ -70,9 +65,6 @@ impl PricePoint {
         if good == 0 {
             return 0;
         }
-        if good > self.grid.goods() {
-            return 0;
-        }
-        self.prices[good - 1]
+        self.prices().get(good - 1).copied().unwrap_or(0)
     }
 }

@@ -1,4 +1,4 @@
-use Rattle.std.proofs.Common.{◌≡◌, ℕ, ◌-◌, ◌+◌, ◌<◌, get_or, rules, arith}
+use Rattle.std.proofs.Common.{◌≡◌, ℕ, ◌<◌, get_or, rules, arith}
 use Rattle.tables.proofs.Made.{made}
 use Rattle.mesh.specs.Prices.{to_prices}
 use Rattle.mesh.proofs.Levels.{price-is, prices-are}
