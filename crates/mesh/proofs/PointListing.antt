@@ -1,8 +1,8 @@
 -- The first price point of a grid, and the one right after another.
-use Rattle.std.proofs.Common.{◌≡◌, ℕ, zero, suc, ◌-◌, ◌<◌, ◌≤◌, List, [], ◌∷◌, length, get_or, take, sum, sym, ap, ◌∙◌, arith}
+use Rattle.std.proofs.Common.{◌≡◌, ℕ, zero, suc, ◌-◌, ◌<◌, List, [], ◌∷◌, length, get_or, take, sum, sym, ap, ◌∙◌, arith}
 use lib.Seq.{take-set-lt}
 use Rattle.std.proofs.lemmas.List.{get_or-take, length-take, length-take-le, take_all}
-use Rattle.std.proofs.lemmas.List.Sums.{get_or-le-sum_by, sum_by-take-le}
+use Rattle.std.proofs.lemmas.List.Sums.{sum_by-take-le}
 use Rattle.mesh.specs.Listing.{IsFirst, IsLast, RightAfter}
 use Rattle.mesh.specs.Points.{goods_of, mesh_of, prices_of}
 use Rattle.mesh.specs.Step.{NonePriced, LastPriced, stepped}
@@ -42,12 +42,6 @@ module _ (p : PricePoint) where
   last-before i h =
       let low : i < goods_of p - 1 = rw before-size at h.0 in
       (low, rw get_or-take at h.1, λ k above below. sym (get_or-take (goods_of p - 1) p.prices k 0 below) ∙ h.2 k above (rw before-size below))
-
--- No price is above the mesh.
-pub price-small : (p : PricePoint) (k : ℕ) → k < goods_of p → get_or p.prices k 0 ≤ mesh_of p
-price-small p k h =
-    let inside : k < length (prices_of p) = rw (prices-size p) h in
-    omega (arith, get_or-take (goods_of p) p.prices k 0 h, get_or-le-sum_by (λ n. n) (prices_of p) k 0 inside, p.adds_up)
 
 -- The table that a step makes of a point's.
 module _ (p : PricePoint) (i : ℕ) (h : LastPriced p.prices (goods_of p - 1) i) where
