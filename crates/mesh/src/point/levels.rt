@@ -17,11 +17,13 @@ fn fall(levels: &[u32]) -> bool
     levels.is_sorted_by(|level, next| *level >= *next)
 }
 
-// So many levels, falling from the mesh.
-fn fit(goods: usize, mesh: u32, levels: &[u32]) -> bool
-    ensures { result ≡ levels_fit goods mesh levels.now }
+// As many levels as goods, falling from the mesh.
+fn fit(grid: Grid, levels: &[u32]) -> bool
+    ensures { result ≡ levels_fit grid.goods grid.mesh levels.now }
 {
-    levels.len() == goods && levels.first().copied().unwrap_or(0) == mesh && fall(levels)
+    levels.len() == grid.goods()
+        && levels.first().copied().unwrap_or(0) == grid.mesh()
+        && fall(levels)
 }
 
 // The sum of the prices from a place on.
@@ -54,7 +56,7 @@ impl PricePoint {
         ensures back { IfOk result (λ p. to_levels (prices_of p) ≡ levels.now) }
     {
         let grid = Grid::new(goods, mesh)?;
-        if !fit(goods, mesh, levels) {
+        if !fit(grid, levels) {
             return Err(Refusal::NotAPricePoint);
         }
         let prices = prices_of(levels);
