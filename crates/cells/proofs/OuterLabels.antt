@@ -1,50 +1,42 @@
 -- The outer label: found by going through the goods, and there for every outer corner.
-use Rattle.std.proofs.Common.{◌≡◌, ℕ, zero, suc, ◌+◌, ◌-◌, ◌<◌, ◌≤◌, Bool, cond, ltb, List, [], ◌∷◌, length, get_or, drop, sum, sym, refl, ap, ◌∙◌, inl, inr, arith}
-use Rattle.std.proofs.lemmas.List.{drop_more, drop_all}
+use Rattle.std.proofs.Common.{◌≡◌, ℕ, zero, suc, ◌+◌, ◌<◌, ◌≤◌, List, [], ◌∷◌, length, get_or, sum, sym, refl, ◌∙◌, inl, inr, arith}
 use Rattle.std.proofs.lemmas.List.Sums.{sum_by-cons}
 use Rattle.std.proofs.lemmas.Bool.{cases_lt, lt-ltb, le-ltb, cond-true, cond-false}
 use Rattle.mesh.specs.Prices.{price, first, to_prices}
 use Rattle.mesh.specs.Points.{goods_of, mesh_of, prices_of}
 use Rattle.mesh.specs.declared.point.PricePoint.{PricePoint}
-use Rattle.mesh.proofs.Levels.{length-prices, price-is, sum-prices}
+use Rattle.mesh.proofs.Levels.{length-prices, sum-prices}
 use Rattle.mesh.proofs.PointLevels.{prices-size}
 use Rattle.cells.specs.Corners.{Corner, first_above, outer_label, LabelsOuter}
 
--- What is left to search after j goods.
-abbrev pub left : List ℕ → List ℕ → ℕ → ℕ
-left c x j = first_above j (drop j c) (drop j x)
+-- The first good whose price is above, and where there is none.
+above-at : (k : ℕ) (c x : List ℕ) (j : ℕ) → j < length c → get_or c j 0 < get_or x j 0 → ((i : ℕ) → i < j → get_or x i 0 ≤ get_or c i 0)
+    → first_above k c x ≡ k + suc j
+above-at k [] x j inside high low = absurd (omega arith)
+above-at k (c ∷ cs) [] j inside high low = absurd (omega arith)
+above-at k (c ∷ cs) (x ∷ xs) zero inside high low = cond-true _ _ _ (lt-ltb c x high) ∙ omega arith
+above-at k (c ∷ cs) (x ∷ xs) (suc j) inside high low =
+    cond-false _ _ _ (le-ltb c x (low 0 (omega arith)))
+    ∙ above-at (suc k) cs xs j (omega arith) high (λ i below. low (suc i) (omega arith)) ∙ omega arith
 
-step : (c x : List ℕ) (j : ℕ) → j < length c → j < length x
-    → left c x j ≡ cond (ltb (get_or c j 0) (get_or x j 0)) (suc j) (left c x (suc j))
-step c x j in_c in-x =
-    let next : j + 1 ≡ suc j = omega arith in
-    ap (λ y. first_above j y (drop j x)) (drop_more c j 0 in_c) ∙ ap (λ y. first_above j (get_or c j 0 ∷ drop (j + 1) c) y) (drop_more x j 0 in-x)
-    ∙ ap (λ k. cond (ltb (get_or c j 0) (get_or x j 0)) (suc j) (first_above (suc j) (drop k c) (drop k x))) next
+none-above : (k : ℕ) (c x : List ℕ) → ((i : ℕ) → i < length c → get_or x i 0 ≤ get_or c i 0) → first_above k c x ≡ 0
+none-above k [] x low = refl
+none-above k (c ∷ cs) [] low = refl
+none-above k (c ∷ cs) (x ∷ xs) low =
+    cond-false _ _ _ (le-ltb c x (low 0 (omega arith))) ∙ none-above (suc k) cs xs (λ i below. low (suc i) (omega arith))
 
-pub left-more : (c x : List ℕ) (j : ℕ) → j < length c → j < length x → get_or x j 0 ≤ get_or c j 0 → left c x j ≡ left c x (j + 1)
-left-more c x j in_c in-x low =
-    let next : suc j ≡ j + 1 = omega arith in
-    step c x j in_c in-x ∙ cond-false _ _ _ (le-ltb (get_or c j 0) (get_or x j 0) low) ∙ ap (left c x) next
+-- The label as the code finds it, from a table of eight prices.
+module _ (p : PricePoint) (v table : List ℕ) (size : length table ≡ 8) (entries : (j : ℕ) → j < 8 → get_or table j 0 ≡ get_or (to_prices v) j 0) where
+  pub label-at : (j : ℕ) → j < length (prices_of p) → get_or (prices_of p) j 0 < get_or table j 0
+      → ((k : ℕ) → k < j → get_or table k 0 ≤ get_or (prices_of p) k 0) → j + 1 ≡ outer_label (prices_of p) v
+  label-at j inside high low =
+      let few : length (prices_of p) ≤ 8 = omega (arith, prices-size p, p.grid.goods_fit.1) in
+      sym (above-at 0 (prices_of p) (to_prices v) j inside (omega (arith, entries j (omega arith))) (λ k below. omega (arith, entries k (omega arith), low k below)) ∙ omega arith)
 
-pub left_here : (c x : List ℕ) (j : ℕ) → j < length c → j < length x → get_or c j 0 < get_or x j 0 → left c x j ≡ j + 1
-left_here c x j in_c in-x high =
-    let next : suc j ≡ j + 1 = omega arith in step c x j in_c in-x ∙ cond-true _ _ _ (lt-ltb (get_or c j 0) (get_or x j 0) high) ∙ next
-
-none_left : (j : ℕ) (c : List ℕ) → first_above j c [] ≡ 0
-none_left j [] = refl
-none_left j (c ∷ cs) = refl
-
-pub left-short : (c x : List ℕ) (j : ℕ) → length x ≤ j → left c x j ≡ 0
-left-short c x j past = ap (first_above j (drop j c)) (drop_all j x past) ∙ none_left j (drop j c)
-
-pub left_end : (c x : List ℕ) (j : ℕ) → length c ≤ j → left c x j ≡ 0
-left_end c x j past = ap (λ y. first_above j y (drop j x)) (drop_all j c past)
-
--- The test of one good as the code makes it, from the start's prices and two levels.
-pub tested : (c xs v : List ℕ) (j x : ℕ) (r : Bool) → xs ≡ c → x ≡ get_or v j 0 - get_or v (j + 1) 0 → r ≡ ltb (get_or xs j 0) x
-    → r ≡ ltb (get_or c j 0) (get_or (to_prices v) j 0)
-tested c xs v j x r same is test =
-    test ∙ ap (λ y. ltb (get_or y j 0) x) same ∙ ap (λ n. ltb (get_or c j 0) n) (is ∙ sym (price-is v j))
+  pub label-none : ((k : ℕ) → k < length (prices_of p) → k < length table → get_or table k 0 ≤ get_or (prices_of p) k 0) → 0 ≡ outer_label (prices_of p) v
+  label-none low =
+      let few : length (prices_of p) ≤ 8 = omega (arith, prices-size p, p.grid.goods_fit.1) in
+      sym (none-above 0 (prices_of p) (to_prices v) (λ k below. omega (arith, entries k (omega arith), low k below (omega arith))))
 
 -- Where the prices add up to more, some price is above.
 pub above-there : (k : ℕ) (c x : List ℕ) → length c ≡ length x → sum c < sum x

@@ -1,29 +1,20 @@
 // Outer labels.
-ghost use Rattle.std.specs.Prelude.{◌≡◌, suc, ◌+◌, ◌-◌, nat_lt, slice_index};
+ghost use Rattle.std.specs.Prelude.{◌≡◌, ℕ, suc, ◌<◌, ◌≤◌, MatchOption, length, slice_index};
 ghost use Rattle.mesh.specs.Points.{goods_of, mesh_of, prices_of};
 ghost use Rattle.mesh.specs.Prices.{first};
 ghost use Rattle.cells.specs.Corners.{Corner, outer_label, LabelsOuter};
 
 use mesh::point::PricePoint;
+use mesh::pricing::prices_of;
 
-// The price that levels give the good after place j: a level less the next, 0 past the last level.
-pub fn price_at(levels: &[u32], j: usize) -> u32
-    ensures { result ≡ slice_index levels.now j - slice_index levels.now (j + 1) }
+// The first place where a price is strictly above that of the start.
+fn first_above(start: &[u32], prices: &[u32]) -> Option<usize>
+    ensures { MatchOption result ((k : ℕ) → k < length start.now → k < length prices.now → slice_index prices.now k ≤ slice_index start.now k) (λ j. (j < length start.now) × (j < length prices.now) × (slice_index start.now j < slice_index prices.now j) × ((k : ℕ) → k < j → slice_index prices.now k ≤ slice_index start.now k)) }
 {
-    if j >= levels.len() {
-        return 0;
-    }
-    if j + 1 >= levels.len() {
-        return levels[j];
-    }
-    levels[j].saturating_sub(levels[j + 1])
-}
-
-// A price strictly above that of the start.
-fn is_above(price: u32, start: u32) -> bool
-    ensures { result ≡ nat_lt start price }
-{
-    price > start
+    start
+        .iter()
+        .zip(prices)
+        .position(|(before, price)| price > before)
 }
 
 // The outer label of a corner for a start point: the smallest good whose price is above that of the start, 0 where there is none. An outer corner of
@@ -32,15 +23,9 @@ pub fn outer_label(start: &PricePoint, levels: &[u32]) -> u8
     ensures value { result ≡ outer_label (prices_of start.now) levels.now }
     ensures found { Corner (goods_of start.now) (mesh_of start.now) levels.now → first levels.now ≡ suc (mesh_of start.now) → LabelsOuter (goods_of start.now) (prices_of start.now) levels.now result }
 {
-    let prices = start.prices();
-    let goods = start.goods();
-    for j in 0..goods {
-        if j >= levels.len() {
-            return 0;
-        }
-        if is_above(price_at(levels, j), prices[j]) {
-            return (j + 1) as u8;
-        }
+    let prices = prices_of(levels);
+    match first_above(start.prices(), &prices) {
+        Some(j) => j as u8 + 1,
+        None => 0,
     }
-    0
 }

@@ -1,5 +1,5 @@
 -- Tables of bytes, and what is read from a sheet.
-use Rattle.std.specs.Prelude.{ℕ, zero, suc, ◌+◌, ◌≤◌, ◌&&◌, List, [], ◌∷◌, take, replicate, ◌==◌, slice_index, slice_set}
+use Rattle.std.specs.Prelude.{ℕ, zero, suc, ◌+◌, ◌≤◌, ◌&&◌, List, [], ◌∷◌, take, ◌==◌, slice_index}
 use Rattle.std.proofs.Common.{arith}
 use Rattle.std.proofs.lemmas.Bool.{cond_both}
 use Rattle.mesh.specs.Prices.{to_levels}
@@ -8,18 +8,6 @@ use Rattle.labelling.specs.declared.sheet.Sheet.{Sheet}
 
 abbrev pub Bytes : List ℕ → Type 0
 Bytes xs = (i : ℕ) → slice_index xs i ≤ 255
-
-pub blank-bytes : (n : ℕ) → Bytes (replicate n 0)
-blank-bytes zero i = omega arith
-blank-bytes (suc n) zero = omega arith
-blank-bytes (suc n) (suc i) = blank-bytes n i
-
-pub set-bytes : (xs : List ℕ) (k v : ℕ) → Bytes xs → v ≤ 255 → Bytes (slice_set xs k v)
-set-bytes [] k v all small i = omega arith
-set-bytes (x ∷ xs) zero v all small zero = small
-set-bytes (x ∷ xs) zero v all small (suc i) = all (suc i)
-set-bytes (x ∷ xs) (suc k) v all small zero = all zero
-set-bytes (x ∷ xs) (suc k) v all small (suc i) = set-bytes xs k v (λ n. all (suc n)) small i
 
 pub take-bytes : (n : ℕ) (xs : List ℕ) → Bytes xs → Bytes (take n xs)
 take-bytes zero xs all i = omega arith

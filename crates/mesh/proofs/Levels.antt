@@ -1,8 +1,9 @@
 -- Prices and levels are two ways to say the same.
-use Rattle.std.proofs.Common.{◌≡◌, ℕ, zero, suc, ◌+◌, ◌-◌, ◌<◌, ◌≤◌, true, false, List, [], ◌∷◌, length, get_or, take, drop, set, sum, sym, refl, ap, ◌∙◌, arith}
-use Rattle.std.proofs.lemmas.List.{drop_all, drop_more, drop-set, get_or-take, length-take}
-use Rattle.std.proofs.lemmas.List.Sums.{sum_by-cons, sum_by-take-drop}
-use Rattle.std.proofs.lemmas.Bool.{and_parts, and_from, and_left, and_right, leb-true, le-leb, lt-leb}
+use Rattle.std.proofs.Common.{◌≡◌, ℕ, zero, suc, ◌+◌, ◌-◌, ◌<◌, ◌≤◌, leb, Bool, true, false, List, [], ◌∷◌, length, get_or, take, drop, sum, sym, refl, ap, ◌∙◌, arith}
+use Rattle.std.proofs.lemmas.List.{ext_get_or, get_or-take, length-take-le}
+use Rattle.std.proofs.lemmas.List.Sums.{sum_by-cons}
+use Rattle.std.proofs.lemmas.Bool.{and_parts, and_from, and_left, and_right, leb-true, leb-false, le-leb, lt-leb}
+use Rattle.std.specs.List.{IsAllAdjacentAnswer}
 use Rattle.mesh.specs.Prices.{first, Falls, falls, to_prices, to_levels}
 
 pub length-prices : (u : List ℕ) → length (to_prices u) ≡ length u
@@ -54,6 +55,14 @@ price-is (u ∷ us) zero = at us
     at (v ∷ vs) = refl
 price-is (u ∷ us) (suc j) = let e : suc (j + 1) ≡ suc j + 1 = omega arith in price-is us j ∙ ap (λ n. get_or us j 0 - get_or (u ∷ us) n 0) e
 
+-- A table that has each price has all of them.
+pub prices-are : (u r : List ℕ) → length u ≤ length r → ((k : ℕ) → k < length u → get_or r k 0 ≡ get_or (to_prices u) k 0)
+    → take (length u) r ≡ to_prices u
+prices-are u r room places =
+    let size : length (take (length u) r) ≡ length u = length-take-le (length u) r room in
+    ext_get_or 0 (take (length u) r) (to_prices u) (size ∙ sym (length-prices u))
+    (λ k h. get_or-take (length u) r k 0 (omega arith) ∙ places k (omega arith))
+
 -- The test and the fact.
 pub falls-true : (u : List ℕ) → falls u ≡ true → Falls u
 falls-true [] e = tt
@@ -87,45 +96,14 @@ falls-not (u ∷ (v ∷ vs)) (suc i) h lt =
     let e : suc i + 1 ≡ suc (i + 1) = omega arith in
     and_right _ _ (falls-not (v ∷ vs) i (omega arith) (rw e at lt))
 
--- Summing the prices from the last one on: what stands from place j on, at the end of the prices and one place further down.
-pub levels-end : (x arr : List ℕ) (j k : ℕ) → length x ≡ j → k ≡ 0
-    → (0 ≡ first (to_levels (drop j x))) × (take k (drop j arr) ≡ to_levels (drop j x))
-levels-end x arr j k e none_left =
-    let none : drop j x ≡ [] = drop_all j x (omega arith) in rw (none, none_left) (refl, refl)
+-- What comparing each level with the next answers.
+pub falls-answer : (u : List ℕ) (r : Bool) → IsAllAdjacentAnswer (λ x y b. b ≡ leb y x) u r → r ≡ falls u
+falls-answer u true all = sym (falls-from u (λ i h. leb-true _ _ (sym (all i 0 h))))
+falls-answer u false (k, inside, rise) = sym (falls-not u k inside (leb-false _ _ (sym (rise 0))))
 
-module _ (x arr : List ℕ) (g i s : ℕ) (in-x : i < length x) (in-arr : i < length arr) (below : i < g)
-    (sum-so-far : s ≡ first (to_levels (drop (i + 1) x)))
-    (levels-so-far : take (g - (i + 1)) (drop (i + 1) arr) ≡ to_levels (drop (i + 1) x)) where
-  pub level-more : s + get_or x i 0 ≡ first (to_levels (drop i x))
-  level-more = rw (drop_more x i 0) (omega (arith, sum-so-far))
-
-  pub levels-more : take (g - i) (drop i (set arr i (s + get_or x i 0))) ≡ to_levels (drop i x)
-  levels-more =
-      let size : g - i ≡ suc (g - (i + 1)) = omega arith in
-      let top : s + get_or x i 0 ≡ get_or x i 0 + first (to_levels (drop (i + 1) x)) = omega (arith, sum-so-far) in
-      rw (drop-set arr i (s + get_or x i 0), drop_more x i 0, size) (ap (λ n. n ∷ take (g - (i + 1)) (drop (i + 1) arr)) top ∙ ap (λ l. (get_or x i 0 + first (to_levels (drop (i + 1) x))) ∷ l) levels-so-far)
-
--- Every level is at most the sum of all prices.
-pub level-below : (x : List ℕ) (i : ℕ) → first (to_levels (drop i x)) ≤ sum x
-level-below x i = rw (first-levels (drop i x)) (omega (arith, sum_by-take-drop (λ n. n) x i))
-
--- One turn of the loop, over a table P of which the first g entries are the prices.
-pub levels-turn : (P arr : List ℕ) (g j s : ℕ) → 0 < j → j ≤ g → g ≤ length P → g ≤ length arr
-    → s ≡ first (to_levels (drop j (take g P))) → take (g - j) (drop j arr) ≡ to_levels (drop j (take g P))
-    → (s + get_or P (j - 1) 0 ≡ first (to_levels (drop (j - 1) (take g P))))
-    × (take (g - (j - 1)) (drop (j - 1) (set arr (j - 1) (s + get_or P (j - 1) 0))) ≡ to_levels (drop (j - 1) (take g P)))
-levels-turn P arr g zero s low high in-P in-arr e f = absurd (omega arith)
-levels-turn P arr g (suc i) s low high in-P in-arr e f =
-    let one : suc i - 1 ≡ i = omega arith in
-    let more : suc i ≡ i + 1 = omega arith in
-    let entry : get_or (take g P) i 0 ≡ get_or P i 0 = get_or-take g P i 0 (omega arith) in
-    let size : i < length (take g P) = simp length-take (omega arith) in
-    rw (one, ← entry) (
-      level-more (take g P) arr g i s size (omega arith) (omega arith) (rw more at e) (rw more at f),
-      levels-more (take g P) arr g i s size (omega arith) (omega arith) (rw more at e) (rw more at f),
-    )
-
--- What the loop has summed: the levels, and what is known of them.
-pub levels-sums : (x r : List ℕ) (g : ℕ) → length x ≡ g → take g r ≡ to_levels x → (j : ℕ) → j < g → get_or r j 0 ≡ sum (drop j x)
-levels-sums x r g size e j h =
-    sym (get_or-take g r j 0 h) ∙ ap (λ l. get_or l j 0) e ∙ level-is x j (omega arith)
+-- A table that has the sum of the prices from each place on holds the levels.
+pub levels-are : (x r : List ℕ) (g : ℕ) → length x ≡ g → g ≤ length r → ((j : ℕ) → j < g → get_or r j 0 ≡ sum (drop j x)) → take g r ≡ to_levels x
+levels-are x r g size room sums =
+    let long : length (take g r) ≡ g = length-take-le g r room in
+    ext_get_or 0 (take g r) (to_levels x) (long ∙ sym size ∙ sym (length-levels x))
+    (λ k h. get_or-take g r k 0 (omega arith) ∙ sums k (omega arith) ∙ sym (level-is x k (omega arith)))

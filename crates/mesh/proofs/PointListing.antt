@@ -1,8 +1,8 @@
 -- The first price point of a grid, and the one right after another.
-use Rattle.std.proofs.Common.{◌≡◌, ℕ, zero, suc, ◌-◌, ◌<◌, ◌≤◌, List, [], ◌∷◌, length, get_or, take, sum, ap, ◌∙◌, arith}
+use Rattle.std.proofs.Common.{◌≡◌, ℕ, zero, suc, ◌-◌, ◌<◌, List, [], ◌∷◌, length, get_or, take, sum, sym, ap, ◌∙◌, arith}
 use lib.Seq.{take-set-lt}
-use Rattle.std.proofs.lemmas.List.{get_or-take, length-take, take_all}
-use Rattle.std.proofs.lemmas.List.Sums.{get_or-le-sum_by, sum_by-take-le}
+use Rattle.std.proofs.lemmas.List.{get_or-take, length-take, length-take-le, take_all}
+use Rattle.std.proofs.lemmas.List.Sums.{sum_by-take-le}
 use Rattle.mesh.specs.Listing.{IsFirst, IsLast, RightAfter}
 use Rattle.mesh.specs.Points.{goods_of, mesh_of, prices_of}
 use Rattle.mesh.specs.Step.{NonePriced, LastPriced, stepped}
@@ -23,17 +23,25 @@ first-point d r size top e =
     first-from d.goods d.mesh (take d.goods r) (simp length-take (omega arith)) (top-adds-up d.goods d.mesh r (omega arith) top e)
     (get_or-take d.goods r 0 0 (omega arith) ∙ top)
 
--- A point with nothing before its last good is the last.
-pub last-point : (p : PricePoint) → NonePriced p.prices (goods_of p - 1) → IsLast (goods_of p) (mesh_of p) (prices_of p)
-last-point p none =
-    last-from (goods_of p) (mesh_of p) (prices_of p) (prices-size p) p.adds_up
-    (λ k h. get_or-take (goods_of p) p.prices k 0 (omega arith) ∙ none k h)
+-- The prices of the goods before the last.
+module _ (p : PricePoint) where
+  abbrev pub before-last : List ℕ
+  before-last = take (goods_of p - 1) p.prices
 
--- No price is above the mesh.
-pub price-small : (p : PricePoint) (k : ℕ) → k < goods_of p → get_or p.prices k 0 ≤ mesh_of p
-price-small p k h =
-    let inside : k < length (prices_of p) = rw (prices-size p) h in
-    omega (arith, get_or-take (goods_of p) p.prices k 0 h, get_or-le-sum_by (λ n. n) (prices_of p) k 0 inside, p.adds_up)
+  before-size : length before-last ≡ goods_of p - 1
+  before-size = length-take-le (goods_of p - 1) p.prices (omega (arith, p.room, p.grid.goods_fit.1))
+
+  -- A point that has none above 0 is the last.
+  pub last-point : NonePriced before-last (length before-last) → IsLast (goods_of p) (mesh_of p) (prices_of p)
+  last-point none =
+      last-from (goods_of p) (mesh_of p) (prices_of p) (prices-size p) p.adds_up
+      (λ k h. get_or-take (goods_of p) p.prices k 0 (omega arith) ∙ sym (get_or-take (goods_of p - 1) p.prices k 0 h) ∙ none k (rw before-size h))
+
+  -- The last one above 0, by its place in the point's table.
+  pub last-before : (i : ℕ) → LastPriced before-last (length before-last) i → LastPriced p.prices (goods_of p - 1) i
+  last-before i h =
+      let low : i < goods_of p - 1 = rw before-size at h.0 in
+      (low, rw get_or-take at h.1, λ k above below. sym (get_or-take (goods_of p - 1) p.prices k 0 below) ∙ h.2 k above (rw before-size below))
 
 -- The table that a step makes of a point's.
 module _ (p : PricePoint) (i : ℕ) (h : LastPriced p.prices (goods_of p - 1) i) where

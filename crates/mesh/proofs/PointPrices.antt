@@ -1,6 +1,6 @@
 -- The prices of a price point are bounded.
-use Rattle.std.proofs.Common.{ℕ, zero, suc, ◌≤◌, leb, List, length, get_or, sum, ⊎_elim, arith}
-use Rattle.std.proofs.lemmas.List.{get_or_past}
+use Rattle.std.proofs.Common.{ℕ, zero, suc, ◌<◌, ◌≤◌, leb, length, get_or, sum, ⊎_elim, arith}
+use Rattle.std.proofs.lemmas.List.{get_or_past, get_or-take}
 use Rattle.std.proofs.lemmas.List.Sums.{get_or-le-sum_by}
 use Rattle.std.proofs.lemmas.Bool.{cases_lt, cond_both}
 use Rattle.mesh.specs.Prices.{price}
@@ -18,10 +18,11 @@ mesh-small p = omega (arith, most-small (goods_of p), p.grid.mesh_fits.1)
 pub sum-small : (p : PricePoint) → sum (prices_of p) ≤ 16384
 sum-small p = omega (arith, mesh-small p, p.adds_up)
 
-entry-small : (x : List ℕ) (i : ℕ) → get_or x i 0 ≤ sum x
-entry-small x i = ⊎_elim (λ h. get_or-le-sum_by (λ n. n) x i 0 h) (λ h. omega (arith, get_or_past x i 0 h)) (cases_lt i (length x))
-
--- No price is above the mesh.
+-- No price is above 16,384, nor is an entry of the point's table that is one.
 pub price-small : (p : PricePoint) (j : ℕ) → price (prices_of p) j ≤ 16384
 price-small p zero = omega arith
-price-small p (suc j) = omega (arith, entry-small (prices_of p) j, sum-small p)
+price-small p (suc j) =
+    ⊎_elim (λ h. omega (arith, get_or-le-sum_by (λ n. n) (prices_of p) j 0 h, sum-small p)) (λ h. omega (arith, get_or_past (prices_of p) j 0 h)) (cases_lt j (length (prices_of p)))
+
+pub entry-small : (p : PricePoint) (j : ℕ) → j < goods_of p → get_or p.prices j 0 ≤ 16384
+entry-small p j h = omega (arith, get_or-take (goods_of p) p.prices j 0 h, price-small p (suc j))

@@ -3,4 +3,5 @@
 
 pub mod grid;
 pub mod point;
+pub mod pricing;
 pub mod refusal;

@@ -9,18 +9,7 @@ use super::Sheet;
 use crate::Labelling;
 use mesh::point::PricePoint;
 use mesh::refusal::Refusal;
-
-// The bytes in a table of their own, with zeros after them.
-fn table_of(bytes: &[u8]) -> [u8; 65]
-    requires { length bytes.now ≤ 65 }
-    ensures { (length result ≡ 65) × ((take (length bytes.now) result ≡ bytes.now) × (((i : ℕ) → slice_index result i ≤ 255))) }
-{
-    let mut table = [0u8; 65];
-    for i in 0..bytes.len() {
-        table[i] = bytes[i];
-    }
-    table
-}
+use tables::table_of;
 
 // The second level of a point: the sum of its prices from good 2 on.
 fn second_level(point: &PricePoint) -> u32
@@ -41,7 +30,7 @@ impl Sheet {
         if bytes.len() != mesh as usize + 1 {
             return Err(Refusal::SheetLength);
         }
-        let labels = table_of(bytes);
+        let labels = table_of(bytes, 0);
         Ok(Sheet { mesh, labels })
     }
 }

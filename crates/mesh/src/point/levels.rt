@@ -1,49 +1,40 @@
 // Levels: each is the sum of the prices from its good on.
-ghost use Rattle.std.specs.Prelude.{◌≡◌, ℕ, ◌+◌, ◌<◌, ◌≤◌, length, take, drop, IfOk, sum, slice_index};
+ghost use Rattle.std.specs.Prelude.{◌≡◌, ℕ, ◌+◌, ◌^◌, ◌<◌, ◌≤◌, length, take, drop, IfOk, sum, slice_index};
 ghost use Rattle.mesh.specs.Points.{point_of, point_at_levels, levels_fit, goods_of, mesh_of, prices_of};
 ghost use Rattle.mesh.specs.Prices.{first, falls, Falls, to_levels, to_prices};
 ghost use Rattle.mesh.specs.Refusals.{answered};
 
 use super::PricePoint;
 use crate::grid::Grid;
+use crate::pricing::prices_of;
 use crate::refusal::Refusal;
+use std::array;
 
 // No level is above the one before it.
 fn fall(levels: &[u32]) -> bool
     ensures { result ≡ falls levels.now }
 {
-    for j in 1..levels.len() {
-        if levels[j] > levels[j - 1] {
-            return false;
-        }
+    levels.is_sorted_by(|level, next| *level >= *next)
+}
+
+// As many levels as goods, falling from the mesh.
+fn fit(grid: Grid, levels: &[u32]) -> bool
+    ensures { result ≡ levels_fit grid.goods grid.mesh levels.now }
+{
+    levels.len() == grid.goods()
+        && levels.first().copied().unwrap_or(0) == grid.mesh()
+        && fall(levels)
+}
+
+// The sum of the prices from a place on.
+fn sum_from(prices: &[u32], j: usize) -> u32
+    requires { sum prices.now < 2 ^ 32 }
+    ensures { result ≡ sum (drop j prices.now) }
+{
+    match prices.get(j..) {
+        Some(rest) => rest.iter().sum(),
+        None => 0,
     }
-    true
-}
-
-// One level; 0 past the last.
-fn level_at(levels: &[u32], j: usize) -> u32
-    ensures { result ≡ slice_index levels.now j }
-{
-    if j < levels.len() { levels[j] } else { 0 }
-}
-
-// So many levels, falling from the mesh.
-fn fit(goods: usize, mesh: u32, levels: &[u32]) -> bool
-    ensures { result ≡ levels_fit goods mesh levels.now }
-{
-    levels.len() == goods && level_at(levels, 0) == mesh && fall(levels)
-}
-
-// The prices of falling levels, with zeros after them.
-fn differences(levels: &[u32]) -> [u32; 8]
-    requires { (length levels.now ≤ 8) × (Falls levels.now) }
-    ensures { (length result ≡ 8) × (take (length levels.now) result ≡ to_prices levels.now) }
-{
-    let mut prices = [0u32; 8];
-    for j in 0..levels.len() {
-        prices[j] = levels[j] - level_at(levels, j + 1);
-    }
-    prices
 }
 
 impl PricePoint {
@@ -55,21 +46,8 @@ impl PricePoint {
         ensures fall { Falls (take (goods_of self.now) result) }
         ensures top { first (take (goods_of self.now) result) ≡ mesh_of self.now }
     {
-        let mut levels = [0u32; 8];
-        let mut sum = 0u32;
-        for j in (0..self.grid.goods()).rev() {
-            sum = self.with_price(sum, j);
-            levels[j] = sum;
-        }
-        levels
-    }
-
-    // A sum with the price at that place added.
-    fn with_price(&self, sum: u32, j: usize) -> u32
-        requires { (j < goods_of self.now) × (sum + slice_index self.now.prices j ≤ mesh_of self.now) }
-        ensures { result ≡ sum + slice_index self.now.prices j }
-    {
-        sum + self.prices[j]
+        let prices = self.prices();
+        array::from_fn(|j| sum_from(prices, j))
     }
 
     // The point with these levels. Refuses goods and mesh out of range as `new` does, then anything but that many levels falling from the mesh.
@@ -78,10 +56,10 @@ impl PricePoint {
         ensures back { IfOk result (λ p. to_levels (prices_of p) ≡ levels.now) }
     {
         let grid = Grid::new(goods, mesh)?;
-        if !fit(goods, mesh, levels) {
+        if !fit(grid, levels) {
             return Err(Refusal::NotAPricePoint);
         }
-        let prices = differences(levels);
+        let prices = prices_of(levels);
         Ok(PricePoint { grid, prices })
     }
 }

@@ -6,14 +6,13 @@ ghost use Rattle.mesh.specs.Step.{NonePriced, LastPriced, stepped};
 
 use super::PricePoint;
 use crate::grid::Grid;
+use tables::table_of;
 
-// A table with the whole mesh on good 1.
-fn all_on_first(mesh: u32) -> [u32; 8]
-    ensures { (length result ≡ 8) × ((slice_index result 0 ≡ mesh) × (sum result ≡ mesh)) }
+// The last place with a price above 0.
+fn last_priced(prices: &[u32]) -> Option<usize>
+    ensures { MatchOption result (NonePriced prices.now (length prices.now)) (λ i. LastPriced prices.now (length prices.now) i) }
 {
-    let mut prices = [0u32; 8];
-    prices[0] = mesh;
-    prices
+    prices.iter().rposition(|price| *price > 0)
 }
 
 impl PricePoint {
@@ -22,7 +21,7 @@ impl PricePoint {
         ensures grid { result.grid ≡ grid }
         ensures first { IsFirst grid.goods grid.mesh (prices_of result) }
     {
-        let prices = all_on_first(grid.mesh());
+        let prices = table_of(&[grid.mesh()], 0);
         PricePoint { grid, prices }
     }
 
@@ -30,24 +29,13 @@ impl PricePoint {
     pub fn next(&self) -> Option<PricePoint>
         ensures { MatchOption result (IsLast (goods_of self.now) (mesh_of self.now) (prices_of self.now)) (λ p. (p.grid ≡ self.now.grid) × RightAfter (goods_of self.now) (mesh_of self.now) (prices_of self.now) (prices_of p)) }
     {
-        let i = self.last_priced()?;
+        let last = self.grid.goods() - 1;
+        let i = last_priced(&self.prices[..last])?;
         let prices = self.step(i);
         Some(PricePoint {
             grid: self.grid,
             prices,
         })
-    }
-
-    // Of the goods before the last, the last one with a price above 0, by its place in the table.
-    fn last_priced(&self) -> Option<usize>
-        ensures { MatchOption result (NonePriced self.now.prices (goods_of self.now - 1)) (λ i. LastPriced self.now.prices (goods_of self.now - 1) i) }
-    {
-        for i in (0..self.grid.goods() - 1).rev() {
-            if self.prices[i] > 0 {
-                return Some(i);
-            }
-        }
-        None
     }
 
     // Takes one from the price at that place, and puts it with all of the last good's price on the next place.

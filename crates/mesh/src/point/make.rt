@@ -7,29 +7,14 @@ ghost use Rattle.mesh.specs.Refusals.{answered};
 use super::PricePoint;
 use crate::grid::Grid;
 use crate::refusal::Refusal;
+use tables::table_of;
 
 // Eight prices of 32 bits add up to less than 2^64.
 fn total(prices: &[u32]) -> u64
     requires { length prices.now ≤ 8 }
     ensures { result ≡ sum prices.now }
 {
-    let mut sum = 0u64;
-    for price in prices {
-        sum += u64::from(*price);
-    }
-    sum
-}
-
-// The prices in a table of their own, with zeros after them.
-fn table_of(prices: &[u32]) -> [u32; 8]
-    requires { length prices.now ≤ 8 }
-    ensures { (length result ≡ 8) × (take (length prices.now) result ≡ prices.now) }
-{
-    let mut table = [0u32; 8];
-    for i in 0..prices.len() {
-        table[i] = prices[i];
-    }
-    table
+    prices.iter().map(|price| u64::from(*price)).sum()
 }
 
 impl PricePoint {
@@ -44,15 +29,14 @@ impl PricePoint {
         if total(prices) != u64::from(mesh) {
             return Err(Refusal::NotAPricePoint);
         }
-        let prices = table_of(prices);
+        let prices = table_of(prices, 0);
         Ok(PricePoint { grid, prices })
     }
 
     pub fn grid(&self) -> Grid
         ensures { result ≡ self.now.grid }
     {
-        let PricePoint { grid, .. } = *self;
-        grid
+        self.grid
     }
 
     pub fn goods(&self) -> usize
@@ -81,9 +65,6 @@ impl PricePoint {
         if good == 0 {
             return 0;
         }
-        if good > self.grid.goods() {
-            return 0;
-        }
-        self.prices[good - 1]
+        self.prices().get(good - 1).copied().unwrap_or(0)
     }
 }

@@ -38,12 +38,12 @@ impl Refusal {
         ensures { result ≡ carried_by (told self.now) }
     {
         match self {
-            Refusal::Truncated(place) => Some(*place),
-            Refusal::TagNotDue(place) => Some(*place),
-            Refusal::LengthWrong(place) => Some(*place),
-            Refusal::ValueOutOfRange(place) => Some(*place),
-            Refusal::WeightsOffSum(place) => Some(*place),
-            Refusal::GoodUnowned(good) => Some(*good),
+            Refusal::Truncated(value)
+            | Refusal::TagNotDue(value)
+            | Refusal::LengthWrong(value)
+            | Refusal::ValueOutOfRange(value)
+            | Refusal::WeightsOffSum(value)
+            | Refusal::GoodUnowned(value) => Some(*value),
             _ => None,
         }
     }

@@ -1,36 +1,11 @@
-use Rattle.std.proofs.Common.{sym, arith}
-use Rattle.std.proofs.lemmas.Result.{err_from_is_err_and}
-use Rattle.mesh.proofs.PointLevels.{grid-refused, grid-granted, fit-tells, made-at-levels, made-adds-up, levels-refused}
+use Rattle.std.proofs.Common.{sym}
+use Rattle.mesh.proofs.PointLevels.{made-at-levels}
 use Rattle.mesh.proofs.point.PricePoint.at_levels.Goals as goal
 
-pub returns-in_err-grid : goal.returns-in_err-grid
-returns-in_err-grid c =
-    let p = err_from_is_err_and c.from_residual.result c.from_residual.ensures.1 in
-    rw (p.1, p.2) (record { value = grid-refused c.args.goods c.args.mesh c.args.levels.now _ c.in_err-grid.ensures; back = tt })
+pub invariant_of-result-clause-adds_up : goal.invariant_of-result-clause-adds_up
+invariant_of-result-clause-adds_up c =
+    (made-at-levels c.in_ok-grid.grid c.args.levels.now c.prices_of-prices.result (sym c.if-not-fit.ensures) c.prices_of-prices.ensures.prices).0
 
-pub differences-prices-requires : goal.differences-prices-requires
-differences-prices-requires c =
-    let granted = grid-granted c.args.goods c.args.mesh _ _ c.in_ok-grid.ensures in
-    let fit = fit-tells c.args.goods c.args.mesh c.args.levels.now (sym c.if-not-fit.ensures) in
-    (omega (arith, c.in_ok-grid.grid.goods_fit.1, granted.2, fit.0), fit.2)
-
-pub returns-then-not-fit : goal.returns-then-not-fit
-returns-then-not-fit c =
-    let granted = grid-granted c.args.goods c.args.mesh _ _ c.in_ok-grid.ensures in
-    record { value = levels-refused c.args.goods c.args.mesh c.args.levels.now granted.0 granted.1 (sym c.if-not-fit.ensures); back = tt }
-
-pub invariant_of-result : goal.invariant_of-result
-invariant_of-result c =
-    let granted = grid-granted c.args.goods c.args.mesh _ _ c.in_ok-grid.ensures in
-    let made = made-adds-up c.args.goods c.args.mesh c.args.levels.now c.differences-prices.result (sym c.if-not-fit.ensures) c.differences-prices.ensures.1 in
-    record { room = c.differences-prices.ensures.0; adds_up = rw (granted.2, granted.3) made.0 }
-
-pub returns : goal.returns
-returns c =
-    let granted = grid-granted c.args.goods c.args.mesh _ _ c.in_ok-grid.ensures in
-    let fit = sym c.if-not-fit.ensures in
-    let made = made-adds-up c.args.goods c.args.mesh c.args.levels.now c.differences-prices.result fit c.differences-prices.ensures.1 in
-    record {
-      value = rw (granted.2, granted.3) (made-at-levels c.args.goods c.args.mesh c.args.levels.now c.differences-prices.result granted.0 granted.1 fit c.differences-prices.ensures.1);
-      back = rw granted.2 made.1;
-    }
+pub returns-clause-back : goal.returns-clause-back
+returns-clause-back c =
+    (made-at-levels c.in_ok-grid.grid c.args.levels.now c.prices_of-prices.result (sym c.if-not-fit.ensures) c.prices_of-prices.ensures.prices).1

@@ -1,0 +1,35 @@
+-- Tables that `from_fn` and `map` make, where each call of the closure gives a known value and changes nothing.
+--   made      each entry is the value at its place
+--   mapped    each entry is the value at the entry of the other table
+use Rattle.std.proofs.Common.{◌≡◌, ℕ, zero, suc, ◌+◌, ◌<◌, ◌≤◌, List, get_or, refl, ◌∙◌, ⊎_elim, arith}
+use Rattle.std.specs.Array.{IsFromFnResult, IsFromFnResultFrom, IsMapOf, MapsFrom}
+use Rattle.std.specs.Fn.{Mut, Called}
+use Rattle.std.proofs.lemmas.Bool.{cases_lt}
+
+module _ {F B : Type 0} (g : Mut F (ℕ × Unit {0}) B) (value : ℕ → B) (f : F)
+    (call : (i : ℕ) (y : B) (q : F) → Called g f (i, tt) y q → (y ≡ value i) × (q ≡ f)) where
+  pub made : (ys : List B) (n : ℕ) → IsFromFnResult g f ys n → (k : ℕ) (d : B) → k < n → get_or ys k d ≡ value k
+  made ys n e k d low = from 0 n f refl e.each k d (omega arith) (omega arith)
+    where
+      from : (i n : ℕ) (p : F) → p ≡ f → IsFromFnResultFrom g p ys i n → (k : ℕ) (d : B) → i ≤ k → k < i + n → get_or ys k d ≡ value k
+      from i zero p same e k d low high = absurd (omega arith)
+      from i (suc n) p same (q, y, here, called, rest) k d low high =
+          let c = call i y q (rw same at called) in
+          ⊎_elim
+          (λ later. from (i + 1) n q c.1 rest k d (omega arith) (omega arith))
+          (λ now. let is : k ≡ i = omega arith in rw is (here.1 d ∙ c.0))
+          (cases_lt i k)
+
+module _ {F A B : Type 0} (g : Mut F (A × Unit {0}) B) (value : A → B) (f : F)
+    (call : (x : A) (y : B) (q : F) → Called g f (x, tt) y q → (y ≡ value x) × (q ≡ f)) where
+  pub mapped : (xs : List A) (ys : List B) (n : ℕ) → IsMapOf g f xs ys n → (k : ℕ) (a : A) (d : B) → k < n → get_or ys k d ≡ value (get_or xs k a)
+  mapped xs ys n e k a d low = from 0 n f refl e.each k a d (omega arith) (omega arith)
+    where
+      from : (i n : ℕ) (p : F) → p ≡ f → MapsFrom g p xs ys i n → (k : ℕ) (a : A) (d : B) → i ≤ k → k < i + n → get_or ys k d ≡ value (get_or xs k a)
+      from i zero p same e k a d low high = absurd (omega arith)
+      from i (suc n) p same (q, x, y, there, here, called, rest) k a d low high =
+          let c = call x y q (rw same at called) in
+          ⊎_elim
+          (λ later. from (i + 1) n q c.1 rest k a d (omega arith) (omega arith))
+          (λ now. let is : k ≡ i = omega arith in rw (is, there.1 a) (here.1 d ∙ c.0))
+          (cases_lt i k)
