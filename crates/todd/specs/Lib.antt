@@ -30,3 +30,4 @@ pub mod Crossing
 pub mod Stops
 pub mod Between
 pub mod CrossJ1
+pub mod InFamily

@@ -5,6 +5,8 @@ ghost use Rattle.todd.specs.Laws.{K1Lawful, J1Lawful};
 
 pub mod j1;
 pub mod k1;
+mod member;
+mod start;
 mod steps;
 
 pub fn lawful() -> bool

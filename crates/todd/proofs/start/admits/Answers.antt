@@ -1,7 +1,7 @@
 use Rattle.std.proofs.Common.{ap, ◌∙◌}
 use Rattle.todd.specs.J1.{all_even}
-use Rattle.todd.proofs.J1Start.{admitted-is, but_last}
-use Rattle.todd.proofs.j1.admits.Goals as goal
+use Rattle.todd.proofs.Starting.{admitted-is, but_last}
+use Rattle.todd.proofs.start.admits.Goals as goal
 
 pub returns : goal.returns
 returns c =
