@@ -28,11 +28,7 @@ pub(crate) trait Member {
 }
 
 // The levels of the corner at a place.
-pub(crate) fn corner<M: Member>(
-    grid: &Grid,
-    cell: &Cell,
-    place: usize,
-) -> Result<[u32; 8], Refusal>
+pub(crate) fn corner<M: Member>(grid: &Grid, cell: &Cell, place: usize) -> Result<[u32; 8], Refusal>
     ensures { CornerAnswer (M.meaning grid.now.goods grid.now.mesh) cell.now place result }
 {
     let goods = grid.goods();

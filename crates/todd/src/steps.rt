@@ -65,18 +65,15 @@ fn stop(grid: &Grid, levels: &[u32], up: bool, j: u8) -> Option<Wall>
     ensures { option_map wall_of result ≡ stop grid.now.mesh up levels.now j }
 {
     let here = level(levels, usize::from(j));
-    if !up {
-        if j == 1 && here == grid.mesh() {
-            return Some(Wall::Real);
+    match (up, j) {
+        (true, 1) => (here == grid.mesh() + 1).then_some(Wall::Outer),
+        (true, _) => {
+            let above = j.saturating_sub(1);
+            (here == level(levels, usize::from(above))).then_some(Wall::Good(above))
         }
-        let below = level(levels, usize::from(j) + 1);
-        return (here == below).then_some(Wall::Good(j));
+        (false, 1) if here == grid.mesh() => Some(Wall::Real),
+        (false, _) => (here == level(levels, usize::from(j) + 1)).then_some(Wall::Good(j)),
     }
-    if j == 1 {
-        return (here == grid.mesh() + 1).then_some(Wall::Outer);
-    }
-    let above = j.saturating_sub(1);
-    (here == level(levels, usize::from(above))).then_some(Wall::Good(above))
 }
 
 // The same at the corner at a place of a cell.
