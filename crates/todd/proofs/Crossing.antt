@@ -15,9 +15,10 @@ use Rattle.cells.specs.Ways.{wall_of}
 use Rattle.cells.specs.declared.cell.Cell.{Cell}
 use Rattle.cells.specs.declared.wall.Wall.{Wall}
 use Rattle.cells.specs.declared.wall.Way.TheVariants.{Moved, Stopped}
-use Rattle.todd.specs.Steps.{nth, stop, or_else, swap_at}
-use Rattle.todd.specs.J1.{upward}
-use Rattle.todd.specs.Walk.{Holds, corner_at, Crosses, middle_across}
+use Rattle.todd_laws.specs.Steps.{nth, stop, or_else, swap_at}
+use Rattle.todd_laws.specs.J1.{upward}
+use Rattle.todd_laws.specs.Records.{Holds, corner_at, middle_across}
+use Rattle.todd.specs.Walk.{Crosses}
 use Rattle.todd.proofs.Records.{shape_is, nth-is, way-is}
 
 pub crosses-wall : {g : ℕ} {c : Cell} {r : Option Wall} {w : Wall} (o : Option corners.Wall) (b : Shape) (j : ℕ) → option_map wall_of r ≡ o → r ≡ Some w

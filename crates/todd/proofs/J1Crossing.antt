@@ -9,10 +9,11 @@ use Rattle.cells.specs.Ways.{wall_of}
 use Rattle.cells.specs.declared.cell.Cell.{Cell}
 use Rattle.cells.specs.declared.wall.Wall.{Wall}
 use Rattle.cells.specs.declared.wall.Way.TheVariants.{Moved, Stopped}
-use Rattle.todd.specs.Steps.{level, shift, nth, stop, or_else}
-use Rattle.todd.specs.J1.{J1Cell, j1_corner, j1_last, j1_across, j1, upward}
-use Rattle.todd.specs.Walk.{Holds, corner_at, Crosses}
-use Rattle.todd.specs.InFamily.{j1-in-family}
+use Rattle.todd_laws.specs.Steps.{level, shift, nth, stop, or_else}
+use Rattle.todd_laws.specs.J1.{J1Cell, j1_corner, j1_last, j1_across, j1, upward}
+use Rattle.todd_laws.specs.Records.{Holds, corner_at}
+use Rattle.todd.specs.Walk.{Crosses}
+use Rattle.todd_laws.proofs.InFamily.{j1-in-family}
 use Rattle.todd.proofs.Records.{shape_is, nth-is, way-is, moved_twice, ups-turned}
 use Rattle.todd.proofs.Crossing.{crosses-wall, crosses-moved}
 

@@ -9,10 +9,11 @@ use Rattle.cells.specs.Ways.{wall_of}
 use Rattle.cells.specs.declared.cell.Cell.{Cell}
 use Rattle.cells.specs.declared.wall.Wall.{Wall}
 use Rattle.cells.specs.declared.wall.Way.TheVariants.{Moved, Stopped}
-use Rattle.todd.specs.Steps.{level, shift, nth, stop, or_else}
-use Rattle.todd.specs.K1.{K1Cell, k1_corner, k1_last, k1_across, k1}
-use Rattle.todd.specs.Walk.{Holds, corner_at, Crosses}
-use Rattle.todd.specs.InFamily.{k1-in-family}
+use Rattle.todd_laws.specs.Steps.{level, shift, nth, stop, or_else}
+use Rattle.todd_laws.specs.K1.{K1Cell, k1_corner, k1_last, k1_across, k1}
+use Rattle.todd_laws.specs.Records.{Holds, corner_at}
+use Rattle.todd.specs.Walk.{Crosses}
+use Rattle.todd_laws.proofs.InFamily.{k1-in-family}
 use Rattle.todd.proofs.Records.{shape_is, nth-is, moved_in}
 use Rattle.todd.proofs.Crossing.{crosses-wall, crosses-moved}
 use Rattle.todd.proofs.Turns.{rotated_left, rotated_right}

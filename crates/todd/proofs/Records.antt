@@ -9,11 +9,10 @@ use Rattle.cells.specs.Corners.{Corner}
 use Rattle.cells.specs.Triangulation.{Shape}
 use Rattle.cells.specs.Cells.{shape_of}
 use Rattle.cells.specs.declared.cell.Cell.{Cell}
-use Rattle.todd.specs.Steps.{level, shift, nth}
-use Rattle.todd.specs.J1.{upward, turned}
-use Rattle.todd.specs.Walk.{Holds, corner_at}
-use Rattle.todd.specs.Bridge as bridge
-use Rattle.todd.specs.Bridge.{shift_same, length_shift}
+use Rattle.todd_laws.specs.Steps.{level, step, shift, nth}
+use Rattle.todd_laws.specs.J1.{upward, turned}
+use Rattle.todd_laws.specs.Records.{Holds, corner_at}
+use Rattle.todd_laws.proofs.Bridge.{shift_same}
 
 pub shape_is : (b c o p : List ℕ) (u v : List Bool) → b ≡ c → o ≡ p → u ≡ v
     → ◌≡◌ {A = Shape} (record { base = b; order = o; ups = u }) (record { base = c; order = p; ups = v })
@@ -37,7 +36,7 @@ mesh-small d =
     let all : cond (leb d.goods 4) 16384 128 ≤ 16384 = cond_both (leb d.goods 4) 16384 128 (λ n. n ≤ 16384) (λ e. omega arith) (λ e. omega arith) in
     omega (arith, d.mesh_fits.1)
 
-step_small : (up : Bool) (x : ℕ) → x ≤ 16385 → bridge.step up x < 4294967295
+step_small : (up : Bool) (x : ℕ) → x ≤ 16385 → step up x < 4294967295
 step_small true x h = omega arith
 step_small false x h = omega arith
 

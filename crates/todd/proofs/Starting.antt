@@ -1,18 +1,16 @@
 -- The start cells as records.
-use Rattle.std.proofs.Common.{◌≡◌, ℕ, suc, zero, ◌-◌, ◌<◌, ◌≤◌, Bool, true, false, ◌&&◌, List, ◌∷◌, map, length, get_or, take, drop, replicate, sum, sym, refl, ap, ◌∙◌, arith}
+use Rattle.std.proofs.Common.{◌≡◌, ℕ, suc, zero, ◌-◌, ◌<◌, ◌≤◌, true, false, List, ◌∷◌, map, length, get_or, take, drop, replicate, sum, sym, refl, ap, ◌∙◌, arith}
 use Rattle.std.proofs.lemmas.List.Sums.{sum_by-take-drop}
 use Rattle.std.proofs.lemmas.List.{get_or-take, get_or-map, length-take, length-map, ext_get_or, take-replicate}
-use Rattle.std.proofs.lemmas.Bool.{eq-eqb, and_from}
 use Rattle.mesh.specs.Prices.{to_levels}
-use Rattle.mesh.specs.Points.{goods_of, mesh_of, prices_of}
+use Rattle.mesh.specs.Points.{goods_of, prices_of}
 use Rattle.mesh.specs.declared.point.PricePoint.{PricePoint}
 use Rattle.mesh.proofs.Levels.{length-levels}
 use Rattle.mesh.proofs.PointLevels.{prices-size}
 use Rattle.cells.specs.Cells.{shape_of}
-use Rattle.todd.specs.Steps.{up_from, down_from}
-use Rattle.todd.specs.J1.{j1, all_even}
+use Rattle.todd_laws.specs.Steps.{up_from, down_from, start_shape}
 use Rattle.todd.specs.Walk.{Raised}
-use Rattle.todd.specs.StartCell.{start_shape, length-down, down-at}
+use Rattle.todd_laws.proofs.StartCell.{length-down, down-at}
 use Rattle.todd.proofs.Records.{shape_is, mesh-small}
 
 -- The first numbers of a rising order.
@@ -22,11 +20,6 @@ take-up j (suc n) zero h = absurd (omega arith)
 take-up j (suc n) (suc m) h = ap (λ l. suc j ∷ l) (take-up (suc j) n m (omega arith))
 
 module _ (p : PricePoint) where
-  -- All that is left to test of a point are its prices.
-  pub admitted-is : (b : Bool) → b ≡ all_even (take (goods_of p - 1) (prices_of p)) → b ≡ (j1 (goods_of p) (mesh_of p)).admitted (prices_of p)
-  admitted-is b e =
-      e ∙ ap (λ t. t && all_even (take (goods_of p - 1) (prices_of p))) (sym (and_from _ _ (eq-eqb _ _ (prices-size p)) (eq-eqb _ _ p.adds_up)))
-
   -- The start cell with all levels up.
   pub start-up : (levels : List ℕ) → take (goods_of p) levels ≡ to_levels (prices_of p)
       → shape_of (goods_of p) (record { base = levels; order = up_from 0 8; ups = replicate 8 true }) ≡ start_shape (goods_of p) true (prices_of p)
@@ -59,7 +52,3 @@ module _ (p : PricePoint) where
   pub levels-room : (levels : List ℕ) → ((j : ℕ) → j < goods_of p → get_or levels j 0 ≡ sum (drop j (prices_of p)))
       → (i : ℕ) → i < goods_of p → get_or levels i 0 < 4294967295
   levels-room levels sums i h = omega (arith, sums i h, sum_by-take-drop (λ n. n) (prices_of p) i, p.adds_up, mesh-small p.grid)
-
--- All but the last, as the code cuts them.
-pub but_last : (n m : ℕ) (xs ys : List ℕ) → n ≡ m → xs ≡ ys → take (n - 1) xs ≡ take (m - 1) ys
-but_last n m xs ys e f = cc

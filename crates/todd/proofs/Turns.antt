@@ -2,7 +2,7 @@
 use Rattle.std.proofs.Common.{◌≡◌, ℕ, suc, ◌-◌, ◌≤◌, List, [], ◌∷◌, ◌++◌, length, take, drop, ap, ◌∙◌, subst, arith}
 use Rattle.std.proofs.Math.Seq.{take-append_seam, drop-cons}
 use Rattle.std.proofs.lemmas.List.{length-append, length-take, length-drop, drop_all}
-use Rattle.todd.specs.Steps.{nth}
+use Rattle.todd_laws.specs.Steps.{nth}
 
 -- A part as long as the front is the front.
 front : (g : ℕ) (xs ys : List ℕ) → length xs ≡ g → take g (xs ++ ys) ≡ xs

@@ -1,33 +1,10 @@
--- What the code of K1 and J1 has in common. A cell of K1 is one of J1's form with all directions up, so both speak of the corners of J1.
-use Rattle.std.specs.Prelude.{◌≡◌, ℕ, suc, ◌+◌, ◌-◌, ◌<◌, ◌≤◌, Bool, cond, List, length, slice_index}
-use Rattle.mesh.specs.declared.grid.Grid.{Grid}
-use Rattle.cells.specs.Corners.{Corner}
-use Rattle.cells.specs.Triangulation.{Shape, Across, moved, Mesh}
+-- What the steps of K1 and J1 on records answer.
+use Rattle.std.specs.Prelude.{◌≡◌, ℕ, suc, ◌<◌, List, length, slice_index}
+use Rattle.cells.specs.Triangulation.{Shape, Across, Mesh}
 use Rattle.cells.specs.Cells.{shape_of, Reached}
 use Rattle.cells.specs.Ways.{Says}
 use Rattle.cells.specs.declared.cell.Cell.{Cell}
 use Rattle.cells.specs.declared.wall.Way.{Way}
-use Rattle.todd.specs.Steps.{IsOrder, nth, stop, or_else}
-use Rattle.todd.specs.J1.{j1_corner, j1_middle, upward}
-
--- A number moved by one, up or down.
-abbrev pub step : Bool → ℕ → ℕ
-step up x = cond up (x + 1) (x - 1)
-
--- A base, an order and directions whose corners are corners of the mesh.
-pub record Sound (g D : ℕ) (s : Shape) : Type 0 where
-  pub size : length s.base ≡ g
-  pub order : IsOrder g s.order
-  pub directions : length s.ups ≡ g
-  pub corners : (k : ℕ) → k ≤ g → Corner g D (j1_corner s k)
-
--- The record says such a cell of the grid.
-abbrev pub Holds : Grid → Cell → Type 0
-Holds d c = Sound d.goods d.mesh (shape_of d.goods c)
-
--- The corner at a place of what the record says.
-abbrev pub corner_at : Grid → Cell → ℕ → List ℕ
-corner_at d c k = j1_corner (shape_of d.goods c) k
 
 -- Crossing the record c, where x lies across, goes the way w and leaves the record d.
 pub record Crosses (g : ℕ) (c : Cell) (x : Across Shape) (w : Way) (d : Cell) : Type 0 where
@@ -37,20 +14,6 @@ pub record Crosses (g : ℕ) (c : Cell) (x : Across Shape) (w : Way) (d : Cell) 
 -- The same at place i of a cell of the mesh M.
 abbrev pub CrossesIn : {g D : ℕ} → Mesh Shape g D → Cell → ℕ → Way → Cell → Type 0
 CrossesIn {g} {D} M c i w d = M.is_cell (shape_of g c) → Crosses g c (M.across (shape_of g c) i) w d
-
--- What lies across a place that is neither the first nor the last.
-abbrev pub middle_across : Grid → Cell → ℕ → Across Shape
-middle_across d c i =
-    let s = shape_of d.goods c in
-    or_else (stop d.mesh (upward s (nth s.order (suc i))) (j1_corner s (i - 1)) (nth s.order (suc i))) (moved (j1_middle s i) i)
-
--- Records that are cells of the triangulation M hold such cells, with these corners, and with this across the places between.
-pub record InFamily (M : (g D : ℕ) → Mesh Shape g D) : Type 0 where
-  pub holds : (d : Grid) (c : Cell) → (M d.goods d.mesh).is_cell (shape_of d.goods c) → Holds d c
-  pub corner : (d : Grid) (c : Cell) → (M d.goods d.mesh).is_cell (shape_of d.goods c)
-      → (k : ℕ) → corner_at d c k ≡ (M d.goods d.mesh).corner (shape_of d.goods c) k
-  pub between : (d : Grid) (c : Cell) → (M d.goods d.mesh).is_cell (shape_of d.goods c)
-      → (i : ℕ) → (i ≡ 0 → ⊥) → (i ≡ d.goods → ⊥) → (M d.goods d.mesh).across (shape_of d.goods c) i ≡ middle_across d c i
 
 -- Each entry of r is one more than that of v, as far as it fits.
 pub record Raised (v r : List ℕ) : Type 0 where

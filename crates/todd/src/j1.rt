@@ -1,8 +1,8 @@
 // Todd's J1.
 ghost use Rattle.std.specs.Prelude.{◌≡◌, ◌-◌, true, not, slice_index_or, slice_set};
-ghost use Rattle.todd.specs.J1.{j1};
-ghost use Rattle.todd.specs.Triangulations.{j1-lawful};
-ghost use Rattle.todd.specs.InFamily.{j1-in-family};
+ghost use Rattle.todd_laws.specs.J1.{j1};
+ghost use Rattle.todd_laws.proofs.Triangulations.{j1-lawful};
+ghost use Rattle.todd_laws.proofs.InFamily.{j1-in-family};
 
 use crate::member::{self, Member};
 use crate::start::{admits, is_even, start_down, start_up};

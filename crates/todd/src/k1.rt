@@ -1,7 +1,7 @@
 // Todd's K1.
-ghost use Rattle.todd.specs.K1.{k1};
-ghost use Rattle.todd.specs.Triangulations.{k1-lawful};
-ghost use Rattle.todd.specs.InFamily.{k1-in-family};
+ghost use Rattle.todd_laws.specs.K1.{k1};
+ghost use Rattle.todd_laws.proofs.Triangulations.{k1-lawful};
+ghost use Rattle.todd_laws.proofs.InFamily.{k1-in-family};
 
 use crate::member::{self, Member};
 use crate::start::start_up;

@@ -3,7 +3,8 @@ ghost use Rattle.std.specs.Prelude.{◌≡◌, ℕ, ◌≤◌};
 ghost use Rattle.cells.specs.Triangulation.{Shape, Mesh};
 ghost use Rattle.cells.specs.Cells.{CornerAnswer, AcrossAnswer};
 ghost use Rattle.cells.specs.Ways.{place_of};
-ghost use Rattle.todd.specs.Walk.{CrossesIn, InFamily};
+ghost use Rattle.todd_laws.specs.Records.{InFamily};
+ghost use Rattle.todd.specs.Walk.{CrossesIn};
 
 use crate::steps::{corner_of, cross_middle};
 use cells::cell::Cell;

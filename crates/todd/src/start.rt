@@ -2,8 +2,8 @@
 ghost use Rattle.std.specs.Prelude.{◌≡◌, ℕ, suc, ◌-◌, ◌%◌, ◌<◌, ◌≤◌, true, false, length, ◌==◌, slice_index};
 ghost use Rattle.mesh.specs.Points.{goods_of, mesh_of, prices_of};
 ghost use Rattle.cells.specs.Cells.{shape_of};
-ghost use Rattle.todd.specs.J1.{j1, all_even};
-ghost use Rattle.todd.specs.StartCell.{start_shape};
+ghost use Rattle.todd_laws.specs.J1.{j1, all_even};
+ghost use Rattle.todd_laws.specs.Steps.{start_shape};
 ghost use Rattle.todd.specs.Walk.{Raised};
 
 use cells::cell::Cell;

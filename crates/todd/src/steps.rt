@@ -2,8 +2,9 @@
 ghost use Rattle.std.specs.Prelude.{◌≡◌, ◌+◌, ◌-◌, ◌<◌, ◌≤◌, true, take, slice_index_or};
 ghost use Rattle.std.specs.Option.{option_map};
 ghost use Rattle.cells.specs.Ways.{wall_of, place_of};
-ghost use Rattle.todd.specs.Steps.{level, shift, stop};
-ghost use Rattle.todd.specs.Walk.{step, Holds, corner_at, Crosses, middle_across};
+ghost use Rattle.todd_laws.specs.Steps.{level, step, shift, stop};
+ghost use Rattle.todd_laws.specs.Records.{Holds, corner_at, middle_across};
+ghost use Rattle.todd.specs.Walk.{Crosses};
 
 use cells::cell::Cell;
 use cells::wall::{Wall, Way};

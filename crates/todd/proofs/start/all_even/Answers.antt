@@ -3,7 +3,7 @@ use Rattle.std.specs.List.{list_all}
 use Rattle.std.proofs.lemmas.Iterator.{YieldsList-from_slice}
 use Rattle.std.proofs.lemmas.Iterator.Search.{all_from_yields_List}
 use Rattle.std.proofs.lemmas.List.Recursion.{same_from_clauses}
-use Rattle.todd.specs.J1.{all_even}
+use Rattle.todd_laws.specs.J1.{all_even}
 use Rattle.todd.proofs.start.all_even.Goals as goal
 
 pub returns : goal.returns

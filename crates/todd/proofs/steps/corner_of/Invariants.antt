@@ -1,5 +1,5 @@
 use Rattle.std.proofs.Common.{◌≡◌, take}
-use Rattle.todd.specs.Walk.{Holds, corner_at}
+use Rattle.todd_laws.specs.Records.{Holds, corner_at}
 use Rattle.todd.proofs.steps.corner_of.Given as goal
 
 -- The levels are those of the corner at the place reached.
