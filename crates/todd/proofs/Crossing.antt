@@ -1,10 +1,12 @@
 -- Crossing a record of a cell: what the code answers and leaves is what lies across.
 --   crosses-wall, -moved     by the test for a wall: at a wall, and to the neighbour
---   At                       the level that the test is about, and the shape of what is left
-use Rattle.std.proofs.Common.{◌≡◌, ℕ, suc, ◌+◌, ◌-◌, ◌<◌, ◌≤◌, Bool, true, List, length, get_or, take, set, Some, None, Option, sym, refl, ap, ◌∙◌, arith}
+--   at-last                  what lies across the last place
+--   middle-wall, -moved      what lies across a place between
+use Rattle.std.proofs.Common.{◌≡◌, ℕ, suc, ◌+◌, ◌-◌, ◌<◌, ◌≤◌, Bool, true, List, length, get_or, take, set, Some, None, Option, sym, refl, ap, ◌∙◌, arith, cond, eqb}
 use Rattle.std.specs.List.{swap}
 use Rattle.std.specs.Option.{option_map}
 use Rattle.std.proofs.Math.Seq.{take-set-lt}
+use Rattle.std.proofs.lemmas.Bool.{eq-eqb, ne_eqb, cond-true, cond-false}
 use Rattle.std.proofs.lemmas.List.{get_or-take, length-take}
 use Rattle.std.proofs.lemmas.List.Edits.{swap_is}
 use Rattle.mesh.specs.declared.grid.Grid.{Grid}
@@ -36,6 +38,10 @@ crosses-moved {r = r} (Some v) b j tells is shape =
     let e : ◌≡◌ {A = Option corners.Wall} None (Some v) = ap (option_map wall_of) (sym is) ∙ tells in
     absurd cc
 crosses-moved None b j tells is shape = record { says = refl; left = shape }
+
+-- The case of the last place, in a choice between the first, the last and the others.
+pub at-last : {A : Type 0} (g : ℕ) → 2 ≤ g → (x y z : A) → cond (eqb g 0) x (cond (eqb g g) y z) ≡ y
+at-last g some x y z = cond-false (eqb g 0) x _ (ne_eqb g 0 (λ e. omega arith)) ∙ cond-true (eqb g g) y z (eq-eqb g g refl)
 
 -- The swap of the code is that of the order.
 swapped : (g : ℕ) (p : List ℕ) (i : ℕ) → 1 ≤ i → i < g → i < length p → take g (swap p (i - 1) i) ≡ swap_at (take g p) i

@@ -1,7 +1,6 @@
 -- J1 across the first place and across the last.
-use Rattle.std.proofs.Common.{◌≡◌, ℕ, ◌-◌, ◌<◌, ◌≤◌, Bool, true, not, eqb, List, get_or, set, Some, None, Option, sym, refl, ap, ◌∙◌, subst, arith}
+use Rattle.std.proofs.Common.{◌≡◌, ℕ, ◌-◌, ◌<◌, ◌≤◌, Bool, true, not, List, get_or, set, Some, None, Option, sym, refl, ap, ◌∙◌, subst, arith}
 use Rattle.std.specs.Option.{option_map}
-use Rattle.std.proofs.lemmas.Bool.{eq-eqb, ne_eqb, cond-true, cond-false}
 use Rattle.mesh.specs.declared.grid.Grid.{Grid}
 use Rattle.cells.specs.Triangulation.{Shape, moved}
 use Rattle.cells.specs.Cells.{shape_of}
@@ -15,7 +14,7 @@ use Rattle.todd_laws.specs.Records.{Holds, corner_at}
 use Rattle.todd.specs.Walk.{Crosses}
 use Rattle.todd_laws.proofs.InFamily.{j1-in-family}
 use Rattle.todd.proofs.Records.{shape_is, nth-is, way-is, moved_twice, ups-turned}
-use Rattle.todd.proofs.Crossing.{crosses-wall, crosses-moved}
+use Rattle.todd.proofs.Crossing.{crosses-wall, crosses-moved, at-last}
 
 module _ (d : Grid) (c : Cell) (up : Bool) (r : Option Wall) where
   abbrev s : Shape
@@ -44,9 +43,6 @@ module _ (d : Grid) (c : Cell) (up : Bool) (r : Option Wall) where
     first-stop =
         tells holds ∙ ap (λ u. stop d.mesh u (corner_at d c 1) j) first-way
         ∙ ap (stop d.mesh (upward s (nth s.order 1)) (corner_at d c 1)) (nth-is d c holds 1 (omega arith) some j refl)
-
-    pub first-wall : (w : Wall) → r ≡ Some w → Crosses d.goods c ((j1 d.goods d.mesh).across s 0) (Stopped w) c
-    first-wall w is = crosses-wall _ _ _ first-stop is
 
     pub first-moved : (once twice : List ℕ) (e : Cell) → r ≡ None → (level c.base j < 4294967295 → once ≡ shift up c.base j)
         → (level once j < 4294967295 → twice ≡ shift up once j) → e ≡ turned_at twice j → Crosses d.goods c ((j1 d.goods d.mesh).across s 0) (Moved 0) e
@@ -82,8 +78,7 @@ module _ (d : Grid) (c : Cell) (up : Bool) (r : Option Wall) where
 
     across-last : j1_across d.goods d.mesh s d.goods
         ≡ or_else (stop d.mesh (not (upward s (nth s.order d.goods))) (j1_corner s (d.goods - 1)) (nth s.order d.goods)) (moved (j1_last d.goods s) d.goods)
-    across-last =
-        cond-false (eqb d.goods 0) _ _ (ne_eqb d.goods 0 (λ e. omega (arith, d.goods_fit.0))) ∙ cond-true (eqb d.goods d.goods) _ _ (eq-eqb d.goods d.goods refl)
+    across-last = at-last d.goods d.goods_fit.0 _ _ _
 
     pub last-wall : (w : Wall) → r ≡ Some w → Crosses d.goods c ((j1 d.goods d.mesh).across s d.goods) (Stopped w) c
     last-wall w is = subst (λ x. Crosses d.goods c x (Stopped w) c) (sym across-last) (crosses-wall _ _ _ last-stop is)

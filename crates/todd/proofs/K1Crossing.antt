@@ -1,7 +1,6 @@
 -- K1 across the first place and across the last.
-use Rattle.std.proofs.Common.{◌≡◌, ℕ, ◌-◌, ◌<◌, true, false, eqb, List, ◌++◌, length, get_or, take, drop, Some, None, Option, sym, refl, ap, ◌∙◌, subst, arith}
+use Rattle.std.proofs.Common.{◌≡◌, ℕ, ◌-◌, ◌<◌, true, false, List, ◌++◌, length, get_or, take, drop, Some, None, Option, sym, refl, ap, ◌∙◌, subst, arith}
 use Rattle.std.specs.Option.{option_map}
-use Rattle.std.proofs.lemmas.Bool.{eq-eqb, ne_eqb, cond-true, cond-false}
 use Rattle.mesh.specs.declared.grid.Grid.{Grid}
 use Rattle.cells.specs.Triangulation.{Shape, moved}
 use Rattle.cells.specs.Cells.{shape_of}
@@ -15,7 +14,7 @@ use Rattle.todd_laws.specs.Records.{Holds, corner_at}
 use Rattle.todd.specs.Walk.{Crosses}
 use Rattle.todd_laws.proofs.InFamily.{k1-in-family}
 use Rattle.todd.proofs.Records.{shape_is, nth-is, moved_in}
-use Rattle.todd.proofs.Crossing.{crosses-wall, crosses-moved}
+use Rattle.todd.proofs.Crossing.{crosses-wall, crosses-moved, at-last}
 use Rattle.todd.proofs.Turns.{rotated_left, rotated_right}
 
 module _ (d : Grid) (c : Cell) (n : ℕ) (goods : n ≡ d.goods) (r : Option Wall) where
@@ -58,8 +57,7 @@ module _ (d : Grid) (c : Cell) (n : ℕ) (goods : n ≡ d.goods) (r : Option Wal
         ∙ ap (stop d.mesh false s.base) (nth-is d c there d.goods (omega (arith, d.goods_fit.0)) (omega arith) (get_or c.order (n - 1) 0) last-is)
 
     across-last : k1_across d.goods d.mesh s d.goods ≡ or_else (stop d.mesh false s.base (nth s.order d.goods)) (moved (k1_last d.goods s) 0)
-    across-last =
-        cond-false (eqb d.goods 0) _ _ (ne_eqb d.goods 0 (λ e. omega (arith, d.goods_fit.0))) ∙ cond-true (eqb d.goods d.goods) _ _ (eq-eqb d.goods d.goods refl)
+    across-last = at-last d.goods d.goods_fit.0 _ _ _
 
     pub last-wall : (w : Wall) → r ≡ Some w → Crosses d.goods c ((k1 d.goods d.mesh).across s d.goods) (Stopped w) c
     last-wall w is = subst (λ x. Crosses d.goods c x (Stopped w) c) (sym across-last) (crosses-wall _ _ _ last-stop is)
