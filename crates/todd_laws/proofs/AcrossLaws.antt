@@ -1,10 +1,9 @@
 -- The laws of what lies across a place, of a triangulation that shows what the family says.
 --   Shows     a wall for that wall, a cell for that cell
 --   Crosses   across each place of a cell
-use Rattle.std.specs.Prelude.{◌≡◌, ℕ, zero, suc, ◌-◌, ◌<◌, ◌≤◌, Bool, List, ◌≢◌, nat_lt, slice_index, slice_index_or, refl}
-use Rattle.std.proofs.Common.{sym, ◌∙◌, ap, subst, inl, inr, arith, add-one}
+use Rattle.std.specs.Prelude.{◌≡◌, ℕ, zero, suc, ◌-◌, ◌<◌, ◌≤◌, Bool, List, slice_index, slice_index_or, refl}
+use Rattle.std.proofs.Common.{sym, ◌∙◌, ap, subst, arith, add-one}
 use Rattle.std.proofs.lemmas.List.{ext_get_or}
-use Rattle.std.proofs.lemmas.Bool.{cases_lt, lt-ltb, le-ltb, cond-true, cond-false}
 use Rattle.mesh.proofs.Levels.{falls_at}
 use Rattle.cells.specs.Corners.{Corner, Wall, outer_wall, real_wall, good_wall, IsWall, On, skip}
 use Rattle.cells.proofs.Places.{skip-le, skip-other, among, among_below, skip-among}

@@ -12,7 +12,8 @@ use Rattle.todd_laws.proofs.Family.{Cell, Valid, Same, swap, swapped, across-mid
 use Rattle.todd_laws.proofs.Bridge.{family, way, Listed, corner-at, corner-size, listed-valid}
 use Rattle.todd_laws.proofs.Alike.{valid-like, corner-same}
 use Rattle.todd_laws.proofs.AcrossLaws.{Shows}
-use Rattle.todd_laws.proofs.Crossing.{shape-shows, shows-stop, swap-perm, swap-here, swap-next, swap-else}
+use Rattle.todd_laws.proofs.Orders.{swap-perm, swap-here, swap-next, swap-else}
+use Rattle.todd_laws.proofs.Crossing.{shape-shows, shows-stop}
 use Rattle.todd_laws.proofs.Stops.{tied, mid-up, mid-down}
 
 module _ (g D : ℕ) (up : ℕ → Bool) (some : 1 ≤ g) (s : Shape) (l : Listed g D up s) (d : Cell) (same : Same g (family s) d) where

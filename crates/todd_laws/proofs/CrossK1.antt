@@ -12,7 +12,8 @@ use Rattle.todd_laws.proofs.Family as fam
 use Rattle.todd_laws.proofs.Family.{Cell, Valid, Same, later, sooner, put, to_end, to_front, across-end, across-middle}
 use Rattle.todd_laws.proofs.Bridge.{family, way, least, up_k, Listed, listed-k1-way, k1-corner, length_shift, shift_same, shift-other}
 use Rattle.todd_laws.proofs.AcrossLaws.{Shows}
-use Rattle.todd_laws.proofs.Crossing.{shape-shows, shows-stop, shows-stops, shows-cond, end-perm, front-perm}
+use Rattle.todd_laws.proofs.Crossing.{shape-shows, shows-stop, shows-stops, shows-cond}
+use Rattle.todd_laws.proofs.Orders.{end-perm, front-perm}
 use Rattle.todd_laws.proofs.Stops.{rise-stop, fall-stop}
 use Rattle.todd_laws.proofs.Between.{valid, order_is, value, value-size, nth-is, between}
 

@@ -173,7 +173,7 @@ module _ (g D : ℕ) (up : ℕ → Bool) (some : 1 ≤ g) (c : Cell) (valid : Va
     d-inner j h n = shift-inner g w v (c.at j) (valid.perm.at-below j h) (others j h n)
 
     d-perm : Perm g d.ord d.at
-    d-perm = moved-perm g w v c a y some valid.perm
+    d-perm = moved-perm g w v c a y valid.perm
 
     -- The level above a: it stands at least as high as a does now, and higher or in order.
     above : (j : ℕ) → suc j ≡ a → (y ≤ c.lo j) × (y ≡ c.lo j → First (up y) (shift w v (c.at j)) (end g v))
@@ -327,7 +327,7 @@ module _ (g D : ℕ) (up : ℕ → Bool) (some : 1 ≤ g) (c : Cell) (valid : Va
     e-same =
         record {
           lo = e-lo;
-          ord = same-ord g e.ord e.at c.ord c.at (moved-perm g v w d a x some d-perm) valid.perm e-at;
+          ord = same-ord g e.ord e.at c.ord c.at (moved-perm g v w d a x d-perm) valid.perm e-at;
           at = e-at;
         }
 

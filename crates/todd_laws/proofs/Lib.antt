@@ -1,6 +1,7 @@
 pub mod Triangulations
 pub mod Bridge
 pub mod Family
+pub mod Orders
 pub mod FamilyLaws
 pub mod Corners
 pub mod Rising

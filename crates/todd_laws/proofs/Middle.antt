@@ -2,63 +2,24 @@
 use Rattle.std.specs.Prelude.{◌≡◌, ℕ, suc, ◌-◌, ◌<◌, ◌≤◌, min, Bool, true, false, ◌&&◌, ◌||◌, ◌⊎◌, ◌==◌, ◌≢◌, refl}
 use Rattle.std.proofs.Common.{sym, ◌∙◌, ap, subst, inl, inr, arith}
 use Rattle.std.proofs.lemmas.Bool.Decides.{nat_tests}
-use Rattle.std.proofs.lemmas.Bool.{cases_eq, cases_Bool, cond-true, cond-false, eq-eqb, ne_eqb, eqb-true, and_parts, or_cases, and_from, or_left, or_right, both_ways}
+use Rattle.std.proofs.lemmas.Bool.{cases_Bool, cond-true, cond-false, eq-eqb, ne_eqb, eqb-true, and_parts, or_cases, and_from, or_left, or_right, both_ways}
 use Rattle.cells.specs.Corners.{good_wall, skip}
-use Rattle.todd_laws.proofs.Family.{level, Cell, corner, Perm, First, Valid, next, swap, swapped, across, across-end, across-middle, AllOn, Same, Back, Next, Right}
+use Rattle.todd_laws.proofs.Family.{level, Cell, corner, First, Valid, next, swap, swapped, across, across-end, across-middle, AllOn, Same, Back, Next, Right}
+use Rattle.todd_laws.proofs.Orders.{swap-here, swap-next, swap-twice, swap-perm}
 use Rattle.todd_laws.proofs.Starts.{under-in}
 use Rattle.todd_laws.proofs.Walls.{Neighbours, no-wall-holds}
 
-swap-first : (m : ℕ) → swap m m ≡ suc m
-swap-first m = grind (arith, nat_tests)
-
-swap-second : (m : ℕ) → swap m (suc m) ≡ m
-swap-second m = grind (arith, nat_tests)
-
-swap-other : (m k : ℕ) → (k ≢ m) → (k ≢ suc m) → swap m k ≡ k
-swap-other m k n o = grind (arith, nat_tests)
-
--- A number is one of the two, or neither.
-by-swap : (m k : ℕ) (P : ℕ → ℕ → Type 0) → P m (suc m) → P (suc m) m → ((k ≢ m) → (k ≢ suc m) → P k k) → P k (swap m k)
-by-swap m k P x y z =
-    elim (cases_eq k m) [
-      | inl e ↦ subst (λ t. P t (swap m t)) (sym e) (subst (P m) (sym (swap-first m)) x)
-      | inr n ↦ elim (cases_eq k (suc m)) [
-        | inl e ↦ subst (λ t. P t (swap m t)) (sym e) (subst (P (suc m)) (sym (swap-second m)) y)
-        | inr o ↦ subst (P k) (sym (swap-other m k n o)) (z n o)
-      ]
-    ]
-
-swap-back : (m k : ℕ) → swap m (swap m k) ≡ k
-swap-back m k = by-swap m k (λ k k'. swap m k' ≡ k) (swap-second m) (swap-first m) (swap-other m k)
-
-swap-below : (g m k : ℕ) → suc m < g → k < g → swap m k < g
-swap-below g m k h = by-swap m k (λ k k'. k < g → k' < g) (λ l. h) (λ l. omega arith) (λ n o l. l)
-
 swap-level : (v : Bool) (a m q k : ℕ) → (k ≢ suc m) → level v a q k ≡ level v a (swap m q) k
-swap-level true a m q k n = by-swap m q (λ q q'. level true a q k ≡ level true a q' k) (omega arith) (omega arith) (λ _ _. refl)
-swap-level false a m q k n = by-swap m q (λ q q'. level false a q k ≡ level false a q' k) (omega arith) (omega arith) (λ _ _. refl)
+swap-level true a m q k n = grind (arith, nat_tests)
+swap-level false a m q k n = grind (arith, nat_tests)
 
 -- Two steps keep their order, if they are not the two that change places.
 swap-less : (m p q : ℕ) → (p ≡ m → q ≢ suc m) → p < q → swap m p < swap m q
-swap-less m p q n =
-    by-swap m p (λ p p'. (p ≡ m → q ≢ suc m) → p < q → p' < swap m q)
-    (λ n. by-swap m q (λ q q'. (m ≡ m → q ≢ suc m) → m < q → suc m < q') (λ n h. absurd (omega arith)) (λ n h. absurd (n refl refl)) (λ x y n h. omega arith) n)
-    (λ n. by-swap m q (λ q q'. suc m < q → m < q') (λ h. absurd (omega arith)) (λ h. absurd (omega arith)) (λ x y h. omega arith))
-    (λ x y n. by-swap m q (λ q q'. p < q → p < q') (λ h. omega arith) (λ h. omega arith) (λ _ _ h. h))
-    n
+swap-less m p q n h = grind (arith, nat_tests)
 
 swap-order : (v : Bool) (m p q : ℕ) → (p ≡ m → q ≢ suc m) → (q ≡ m → p ≢ suc m) → First v p q → First v (swap m p) (swap m q)
 swap-order true m p q n o h = swap-less m p q n h
 swap-order false m p q n o h = swap-less m q p o h
-
-pub swapped-perm : (g m : ℕ) (c : Cell) → suc m < g → Perm g c.ord c.at → Perm g (swapped c m).ord (swapped c m).at
-swapped-perm g m c h perm =
-    record {
-      ord-below = λ k l. perm.ord-below (swap m k) (swap-below g m k h l);
-      at-below = λ j l. swap-below g m (c.at j) h (perm.at-below j l);
-      at-ord = λ k l. ap (swap m) (perm.at-ord (swap m k) (swap-below g m k h l)) ∙ swap-back m k;
-      ord-at = λ j l. ap c.ord (swap-back m (c.at j)) ∙ perm.ord-at j l;
-    }
 
 -- The levels a and b are neighbours, and as high.
 abbrev tied : (ℕ → ℕ) → ℕ → ℕ → Bool
@@ -160,7 +121,7 @@ module _ (g D : ℕ) (up : ℕ → Bool) (some : 1 ≤ g) (c : Cell) (valid : Va
     d-valid : Valid g D up d
     d-valid =
         record {
-          perm = swapped-perm g m c h valid.perm;
+          perm = swap-perm g c.ord c.at valid.perm m h;
           top = valid.top;
           falls = valid.falls;
           ties = λ j l e. swap-order (up (c.lo j)) m (c.at j) (c.at (suc j)) (not-here j l (sym e)) (not_there j l (sym e)) (valid.ties j l e);
@@ -171,17 +132,17 @@ module _ (g D : ℕ) (up : ℕ → Bool) (some : 1 ≤ g) (c : Cell) (valid : Va
 
     d-differs : Same g c d → ⊥
     d-differs same =
-        let x : a ≡ b = same.ord m low ∙ ap c.ord (swap-first m) in
+        let x : a ≡ b = same.ord m low ∙ ap c.ord (swap-here m) in
         let y : m ≡ suc m = sym (valid.perm.at-ord m low) ∙ ap c.at x ∙ valid.perm.at-ord (suc m) h in
         omega arith
 
     back-same : Same g (swapped d m) c
-    back-same = record { lo = λ j l. refl; ord = λ k l. ap c.ord (swap-back m k); at = λ j l. swap-back m (c.at j) }
+    back-same = record { lo = λ j l. refl; ord = λ k l. ap c.ord (swap-twice m k); at = λ j l. swap-twice m (c.at j) }
 
     d-back : Back g c (suc m) (across g up d (suc m))
     d-back =
         subst (λ s. Back g c (suc m) s)
-        (sym (across-between g up d m h ∙ middle-next d m b a (ap c.ord (swap-first m)) (ap c.ord (swap-second m)) (tied-turned c.lo a b free)))
+        (sym (across-between g up d m h ∙ middle-next d m b a (ap c.ord (swap-here m)) (ap c.ord (swap-next m)) (tied-turned c.lo a b free)))
         (back-same, refl)
 
     d-between : (j : ℕ) → suc j < g → Neighbours (suc m) (c.lo j) (c.at j) (c.lo (suc j)) (c.at (suc j)) → ⊥

@@ -1,9 +1,10 @@
 -- A level that moves at one end of the order is taken to an end.
 use Rattle.std.specs.Prelude.{◌≡◌, ℕ, suc, ◌-◌, ◌<◌, ◌≤◌, Bool, true, false, ◌==◌, ◌≢◌, refl}
-use Rattle.std.proofs.Common.{sym, ◌∙◌, ap, inl, inr, arith}
+use Rattle.std.proofs.Common.{arith}
 use Rattle.std.proofs.lemmas.Bool.Decides.{nat_tests}
-use Rattle.std.proofs.lemmas.Bool.{cases_eq, cond-true, cond-false, eq-eqb, ne_eqb}
+use Rattle.std.proofs.lemmas.Bool.{cond-true, cond-false, eq-eqb, ne_eqb}
 use Rattle.cells.specs.Corners.{skip}
+use Rattle.todd_laws.proofs.Orders.{end-perm, front-perm}
 use Rattle.todd_laws.proofs.Family.{level, Cell, Perm, First, sooner, later, put, same, end, place, moved}
 
 -- The step p is not the one at the end.
@@ -99,62 +100,23 @@ pub far_from : (g : ℕ) (w : Bool) (k : ℕ) → k ≤ g → (k ≢ place g w) 
 far_from g true k h n = (k - 1, omega arith, omega arith)
 far_from g false k h n = (k, omega arith, refl)
 
--- sooner and later undo one another.
-sooner-below : (g k : ℕ) → 1 ≤ g → k < g → sooner g k < g
-sooner-below g k s h = grind (arith, nat_tests)
-
-later-below : (g k : ℕ) → 1 ≤ g → k < g → later g k < g
-later-below g k s h = grind (arith, nat_tests)
-
 sooner-first : (g k : ℕ) → k ≡ 0 → sooner g k ≡ g - 1
-sooner-first g k e = cond-true (k == 0) (g - 1) (k - 1) (eq-eqb k 0 e)
+sooner-first g k e = grind (arith, nat_tests)
 
 sooner-other : (g k : ℕ) → 0 < k → sooner g k ≡ k - 1
-sooner-other g k h = cond-false (k == 0) (g - 1) (k - 1) (ne_eqb k 0 (λ e. omega arith))
+sooner-other g k h = grind (arith, nat_tests)
 
 later_last : (g k : ℕ) → suc k ≡ g → later g k ≡ 0
-later_last g k e = cond-true (suc k == g) 0 (suc k) (eq-eqb (suc k) g e)
+later_last g k e = grind (arith, nat_tests)
 
 later-other : (g k : ℕ) → suc k < g → later g k ≡ suc k
-later-other g k h = cond-false (suc k == g) 0 (suc k) (ne_eqb (suc k) g (λ e. omega arith))
+later-other g k h = grind (arith, nat_tests)
 
-sooner-later : (g k : ℕ) → k < g → sooner g (later g k) ≡ k
-sooner-later g k h =
-    elim (cases_eq (suc k) g) [
-      | inl e ↦ sooner-first g (later g k) (later_last g k e) ∙ (let x : g - 1 ≡ k = omega arith in x)
-      | inr n ↦
-          let e = later-other g k (omega arith) in
-          sooner-other g (later g k) (omega arith) ∙ (let x : later g k - 1 ≡ k = omega arith in x)
-    ]
-
-later-sooner : (g k : ℕ) → k < g → later g (sooner g k) ≡ k
-later-sooner g k h =
-    elim (cases_eq k 0) [
-      | inl e ↦
-          let x = sooner-first g k e in
-          later_last g (sooner g k) (omega arith) ∙ sym e
-      | inr n ↦
-          let x = sooner-other g k (omega arith) in
-          later-other g (sooner g k) (omega arith) ∙ (let y : suc (sooner g k) ≡ k = omega arith in y)
-    ]
-
-pub moved-perm : (g : ℕ) (w v : Bool) (c : Cell) (a y : ℕ) → 1 ≤ g → Perm g c.ord c.at → Perm g (moved g w v c a y).ord (moved g w v c a y).at
-moved-perm g true true c a y s perm = perm
-moved-perm g true false c a y s perm =
-    record {
-      ord-below = λ k h. perm.ord-below (later g k) (later-below g k s h);
-      at-below = λ j h. sooner-below g (c.at j) s (perm.at-below j h);
-      at-ord = λ k h. ap (sooner g) (perm.at-ord (later g k) (later-below g k s h)) ∙ sooner-later g k h;
-      ord-at = λ j h. ap c.ord (later-sooner g (c.at j) (perm.at-below j h)) ∙ perm.ord-at j h;
-    }
-moved-perm g false true c a y s perm =
-    record {
-      ord-below = λ k h. perm.ord-below (sooner g k) (sooner-below g k s h);
-      at-below = λ j h. later-below g (c.at j) s (perm.at-below j h);
-      at-ord = λ k h. ap (later g) (perm.at-ord (sooner g k) (sooner-below g k s h)) ∙ later-sooner g k h;
-      ord-at = λ j h. ap c.ord (sooner-later g (c.at j) (perm.at-below j h)) ∙ perm.ord-at j h;
-    }
-moved-perm g false false c a y s perm = perm
+pub moved-perm : (g : ℕ) (w v : Bool) (c : Cell) (a y : ℕ) → Perm g c.ord c.at → Perm g (moved g w v c a y).ord (moved g w v c a y).at
+moved-perm g true true c a y perm = perm
+moved-perm g true false c a y perm = end-perm g c.ord c.at perm
+moved-perm g false true c a y perm = front-perm g c.ord c.at perm
+moved-perm g false false c a y perm = perm
 
 put-here : (lo : ℕ → ℕ) (a y : ℕ) → put lo a y a ≡ y
 put-here lo a y = cond-true (a == a) y (lo a) (eq-eqb a a refl)

@@ -1,8 +1,6 @@
 -- A cell starts for a point if and only if its family cell carries all labels.
-use Rattle.std.specs.Prelude.{◌≡◌, ℕ, suc, ◌-◌, ◌<◌, ◌≤◌, Bool, cond, List, length, ◌≢◌, nat_lt, slice_index}
-use Rattle.std.proofs.Common.{sym, ◌∙◌, ap, inl, inr, arith}
-use Rattle.std.proofs.lemmas.Bool.{cases_lt, lt-ltb, le-ltb, cond-true, cond-false}
-use Rattle.std.proofs.lemmas.Bool.Decides.{nat_tests}
+use Rattle.std.specs.Prelude.{◌≡◌, ℕ, suc, ◌-◌, ◌<◌, ◌≤◌, Bool, List, length, slice_index}
+use Rattle.std.proofs.Common.{sym, ◌∙◌, ap, arith}
 use Rattle.mesh.specs.Prices.{first}
 use Rattle.cells.specs.Corners.{outer_label, skip}
 use Rattle.cells.specs.Triangulation.{Shape, Mesh, Starts, facet}
