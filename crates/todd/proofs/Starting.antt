@@ -1,5 +1,5 @@
 -- The start cells as records.
-use Rattle.std.proofs.Common.{◌≡◌, ℕ, suc, zero, ◌-◌, ◌<◌, ◌≤◌, true, false, List, ◌∷◌, map, length, get_or, take, drop, replicate, sum, sym, refl, ap, ◌∙◌, arith}
+use Rattle.std.proofs.Common.{◌≡◌, ℕ, [], suc, zero, ◌-◌, ◌<◌, ◌≤◌, true, false, List, ◌∷◌, map, length, get_or, take, drop, replicate, sum, sym, refl, ap, ◌∙◌, arith}
 use Rattle.std.proofs.lemmas.List.Sums.{sum_by-take-drop}
 use Rattle.std.proofs.lemmas.List.{get_or-take, get_or-map, length-take, length-map, ext_get_or, take-replicate}
 use Rattle.mesh.specs.Prices.{to_levels}
@@ -19,12 +19,14 @@ take-up j zero m h = refl
 take-up j (suc n) zero h = absurd (omega arith)
 take-up j (suc n) (suc m) h = ap (λ l. suc j ∷ l) (take-up (suc j) n m (omega arith))
 
-module _ (p : PricePoint) where
-  -- The start cell with all levels up.
-  pub start-up : (levels : List ℕ) → take (goods_of p) levels ≡ to_levels (prices_of p)
-      → shape_of (goods_of p) (record { base = levels; order = up_from 0 8; ups = replicate 8 true }) ≡ start_shape (goods_of p) true (prices_of p)
-  start-up levels l = shape_is _ _ _ _ _ _ l (take-up 0 (goods_of p) 8 p.grid.goods_fit.1) (take-replicate (goods_of p) 8 true p.grid.goods_fit.1)
+-- The front of the order and of the directions of a start cell with all levels up.
+pub order_up : (g : ℕ) → g ≤ 8 → take g (1 ∷ 2 ∷ 3 ∷ 4 ∷ 5 ∷ 6 ∷ 7 ∷ 8 ∷ []) ≡ up_from 0 g
+order_up g few = take-up 0 g 8 few
 
+pub ways_up : (g : ℕ) → g ≤ 8 → take g (true ∷ true ∷ true ∷ true ∷ true ∷ true ∷ true ∷ true ∷ []) ≡ replicate g true
+ways_up g few = take-replicate g 8 true few
+
+module _ (p : PricePoint) where
   -- The start cell with all levels down.
   pub start-down : (levels base order : List ℕ) → take (goods_of p) levels ≡ to_levels (prices_of p)
       → ((i : ℕ) → i < goods_of p → get_or levels i 0 < 4294967295)

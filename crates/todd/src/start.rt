@@ -49,6 +49,7 @@ fn falling(goods: usize) -> [u8; 8]
 }
 
 // The start cell whose base is the point: all levels go up, the first one first.
+#[tactic(auto, using(crate::proofs::Starting::order_up, crate::proofs::Starting::ways_up))]
 pub(crate) fn start_up(point: &PricePoint) -> Cell
     ensures { shape_of (goods_of point.now) result ≡ start_shape (goods_of point.now) true (prices_of point.now) }
 {
