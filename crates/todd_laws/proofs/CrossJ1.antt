@@ -1,6 +1,7 @@
 -- What lies across a place of a cell of J1.
 use Rattle.std.specs.Prelude.{◌≡◌, ℕ, suc, ◌-◌, ◌%◌, ◌<◌, ◌≤◌, Bool, true, false, cond, not, List, length, get_or, ◌==◌, ◌≢◌, slice_index, slice_index_or, refl}
 use Rattle.std.proofs.Common.{sym, ◌∙◌, ap, subst, inl, inr, arith}
+use Rattle.std.proofs.Math.Bool.{not-not}
 use Rattle.std.proofs.lemmas.List.{get_or-set_same, get_or-set_other, length-set}
 use Rattle.std.proofs.lemmas.Bool.{not-true, not-false, cases_eq, cases_Bool, both_ways, eqb-false, eq-eqb, ne_eqb, cond-true, cond-false}
 use Rattle.cells.specs.Corners.{outer_wall, real_wall, good_wall}
@@ -21,10 +22,6 @@ turns n = elim (cases_eq (n % 2) 1) [
   | inl e ↦ ne_eqb (suc n % 2) 1 (λ q. omega arith) ∙ ap not (sym (eq-eqb (n % 2) 1 e))
   | inr e ↦ eq-eqb (suc n % 2) 1 (omega arith) ∙ ap not (sym (ne_eqb (n % 2) 1 e))
 ]
-
-not-not : (b : Bool) → not (not b) ≡ b
-not-not true = refl
-not-not false = refl
 
 turns_down : (n : ℕ) → (n ≢ 0) → up_j (n - 1) ≡ not (up_j n)
 turns_down n h = let e : suc (n - 1) ≡ n = omega arith in sym (not-not (up_j (n - 1))) ∙ ap not (sym (turns (n - 1))) ∙ ap (λ m. not (up_j m)) e

@@ -1,10 +1,12 @@
 -- K1 and J1 are members of the family, with their start points.
 use Rattle.std.specs.Prelude.{◌≡◌, ℕ, zero, suc, ◌+◌, ◌-◌, ◌%◌, ◌<◌, Bool, true, false, cond, ◌&&◌, T, List, [], ◌∷◌, map, length, take, sum, ◌==◌, nat_eq, slice_index, slice_index_or, refl}
-use Rattle.std.proofs.Common.{sym, ◌∙◌, ap, subst, arith}
+use Rattle.std.proofs.Common.{sym, ◌∙◌, ap, arith}
 use Rattle.std.specs.List.{AllByRecursion}
 use Rattle.std.proofs.lemmas.Bool.{and_parts, and_from, eqb-true, eq-eqb}
 use Rattle.std.proofs.lemmas.List.{get_or-take, length-take}
-use Rattle.std.proofs.ByRecursion.{All-take}
+use Rattle.std.proofs.lemmas.List.Recursion.{and_at, and_from_places}
+use Rattle.std.proofs.lemmas.Float.{T_from_true}
+use Rattle.std.proofs.ByRecursion.{All-take, All-get_or}
 use Rattle.mesh.specs.Prices.{to_levels}
 use Rattle.mesh.proofs.Levels.{first-levels}
 use Rattle.todd_laws.specs.Steps.{level, is_point, start_shape}
@@ -44,9 +46,6 @@ t_true : (b : Bool) → T b → b ≡ true
 t_true true t = refl
 t_true false t = absurd t
 
-true-t : (b : Bool) → b ≡ true → T b
-true-t b e = subst T (sym e) tt
-
 point-is : (g D : ℕ) (c : List ℕ) → is_point g D c ≡ true → (length c ≡ g) × (sum c ≡ D)
 point-is g D c e = let p = and_parts (length c == g) (sum c == D) e in (eqb-true (length c) g p.0, eqb-true (sum c) D p.1)
 
@@ -62,17 +61,15 @@ k1-begins g D = record {
 }
 
 pub k1-even : (g D : ℕ) (c : List ℕ) → length c ≡ g → sum c ≡ D → T (is_point g D c)
-k1-even g D c p q = true-t (is_point g D c) (is-point g D c p q)
+k1-even g D c p q = T_from_true (is_point g D c) (is-point g D c p q)
 
 -- J1: where all prices but the last are even, all levels are odd or even with D.
 even-at : (c : List ℕ) → all_even c ≡ true → (j : ℕ) → j < length c → slice_index c j % 2 ≡ 0
-even-at [] e j h = absurd (omega arith)
-even-at (x ∷ xs) e zero h = eqb-true (x % 2) 0 (and_parts (x % 2 == 0) (all_even xs) e).0
-even-at (x ∷ xs) e (suc j) h = even-at xs (and_parts (x % 2 == 0) (all_even xs) e).1 j (omega arith)
+even-at c e j h = eqb-true (slice_index c j % 2) 0 (and_at all_even (λ x. x % 2 == 0) refl (λ _ _. refl) c j 0 h e)
 
 all-even : (c : List ℕ) → AllByRecursion (λ x. x % 2 ≡ 0) c → all_even c ≡ true
-all-even [] a = refl
-all-even (x ∷ xs) a = and_from (x % 2 == 0) (all_even xs) (eq-eqb (x % 2) 0 a.0) (all-even xs a.1)
+all-even c a =
+    and_from_places all_even (λ x. x % 2 == 0) refl (λ _ _. refl) c 0 (λ i h. eq-eqb (slice_index c i % 2) 0 (All-get_or (λ x. x % 2 ≡ 0) c i 0 h a))
 
 parity : (g D : ℕ) (c : List ℕ) → length c ≡ g → sum c ≡ D → all_even (take (g - 1) c) ≡ true → (j : ℕ) → j < g → level_of c j % 2 ≡ D % 2
 parity g D c p q e zero h = ap (λ n. n % 2) (sym (first-is (to_levels c)) ∙ first-levels c ∙ q)
@@ -103,5 +100,5 @@ j1-begins g D = record {
     parts c t = and_parts (is_point g D c) (all_even (take (g - 1) c)) (t_true (is_point g D c && all_even (take (g - 1) c)) t)
 
 pub j1-even : (g D : ℕ) (c : List ℕ) → length c ≡ g → sum c ≡ D → AllByRecursion (λ x. x % 2 ≡ 0) c → T (is_point g D c && all_even (take (g - 1) c))
-j1-even g D c p q a = true-t (is_point g D c && all_even (take (g - 1) c))
+j1-even g D c p q a = T_from_true (is_point g D c && all_even (take (g - 1) c))
     (and_from (is_point g D c) (all_even (take (g - 1) c)) (is-point g D c p q) (all-even (take (g - 1) c) (All-take (λ x. x % 2 ≡ 0) (g - 1) c a)))
