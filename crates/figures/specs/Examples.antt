@@ -9,8 +9,8 @@ use Rattle.cells.specs.Triangulation.{Shape, wall, moved, Mesh}
 use Rattle.labelling.specs.Labels.{Rule}
 use Rattle.labelling.specs.Sheets.{sheet_rule}
 use Rattle.path.specs.Path.{Opening, Call, step, Answer, ticket, named, Path, count_of, Leads}
-use Rattle.todd.specs.K1.{k1}
-use Rattle.todd.specs.J1.{j1}
+use Rattle.todd_laws.specs.K1.{k1}
+use Rattle.todd_laws.specs.J1.{j1}
 
 -- Two traders, who own one unit each, of the first and of the second good, and weigh both goods alike: the weight sum is 2.
 abbrev pub swappers : List Trader

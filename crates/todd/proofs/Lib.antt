@@ -1,6 +1,6 @@
-pub mod Walking
-pub mod CrossRecords
+pub mod Records
+pub mod Starting
+pub mod Crossing
 pub mod Turns
-pub mod K1Records
-pub mod J1Records
-pub mod J1Start
+pub mod K1Crossing
+pub mod J1Crossing

@@ -1,41 +1,32 @@
--- Turning an order by one.
-use Rattle.std.proofs.Common.{◌≡◌, ℕ, zero, suc, ◌+◌, ◌-◌, ◌<◌, ◌≤◌, List, ◌∷◌, ◌++◌, length, get_or, take, drop, sym, ap, ◌∙◌, inl, inr, arith}
-use Rattle.std.proofs.lemmas.List.{get_or-take, get_or-drop, length-take, length-drop, length-append, get_or_append_left, get_or-append_right, ext_get_or}
-use Rattle.std.proofs.lemmas.Bool.{cases_lt}
-use Rattle.todd.specs.Steps.{nth}
-use Rattle.todd.specs.Walk.{TurnedLeft, TurnedRight}
+-- The front of an order turned by one, as the code turns it.
+use Rattle.std.proofs.Common.{◌≡◌, ℕ, suc, ◌-◌, ◌≤◌, List, [], ◌∷◌, ◌++◌, length, take, drop, ap, ◌∙◌, subst, arith}
+use Rattle.std.proofs.Math.Seq.{take-append_seam, drop-cons}
+use Rattle.std.proofs.lemmas.List.{length-append, length-take, length-drop, drop_all}
+use Rattle.todd_laws.specs.Steps.{nth}
 
-module _ (g : ℕ) (p r : List ℕ) (some : 1 ≤ g) (few : g ≤ 8) (long : length (take g p) ≡ g) where
-  pub left_is : TurnedLeft g p r → take g r ≡ drop 1 (take g p) ++ take 1 (take g p)
-  left_is t =
-      let rest : length (drop 1 (take g p)) ≡ g - 1 = omega (arith, length-drop 1 (take g p)) in
-      let size : length (take g r) ≡ g = omega (arith, length-take g r, t.size) in
-      ext_get_or 0 (take g r) (drop 1 (take g p) ++ take 1 (take g p))
-      (omega (arith, length-append (drop 1 (take g p)) (take 1 (take g p)), length-take 1 (take g p)))
-      (λ i h.
-      let in_g : i < g = omega arith in
-      get_or-take g r i 0 in_g ∙ elim (cases_lt (i + 1) g) [
-        | inl l ↦
-            let e : 1 + i ≡ i + 1 = omega arith in
-            t.next i l ∙ sym (get_or-take g p (i + 1) 0 l) ∙ ap (λ n. get_or (take g p) n 0) (sym e) ∙ sym (get_or-drop 1 (take g p) i 0)
-            ∙ sym (get_or_append_left (drop 1 (take g p)) (take 1 (take g p)) 0 i (omega arith))
-        | inr l ↦
-            let e : i ≡ g - 1 = omega arith in
-            let z : i - (g - 1) ≡ 0 = omega arith in
-            ap (λ n. get_or r n 0) e ∙ t.last ∙ sym (get_or-take g p 0 0 some) ∙ sym (get_or-take 1 (take g p) 0 0 (omega arith))
-            ∙ ap (λ n. get_or (take 1 (take g p)) n 0) (sym z)
-            ∙ sym (get_or-append_right (drop 1 (take g p)) (take 1 (take g p)) (g - 1) i 0 rest (omega arith))
-      ])
+-- A part as long as the front is the front.
+front : (g : ℕ) (xs ys : List ℕ) → length xs ≡ g → take g (xs ++ ys) ≡ xs
+front g xs ys e = subst (λ n. take n (xs ++ ys) ≡ xs) e (take-append_seam xs ys)
 
-  pub right_is : TurnedRight g p r → take g r ≡ nth (take g p) g ∷ take (g - 1) (take g p)
-  right_is t =
-      let size : length (take g r) ≡ g = omega (arith, length-take g r, t.size) in
-      let front = length-take (g - 1) (take g p) in
-      ext_get_or 0 (take g r) (nth (take g p) g ∷ take (g - 1) (take g p)) (omega arith) (λ i h. at i (omega arith))
-    where
-      at : (i : ℕ) → i < g → get_or (take g r) i 0 ≡ get_or (nth (take g p) g ∷ take (g - 1) (take g p)) i 0
-      at zero h = get_or-take g r 0 0 h ∙ t.head ∙ sym (get_or-take g p (g - 1) 0 (omega arith))
-      at (suc i) h =
-          let e : suc i ≡ i + 1 = omega arith in
-          get_or-take g r (suc i) 0 h ∙ ap (λ n. get_or r n 0) e ∙ t.next i (omega arith) ∙ sym (get_or-take g p i 0 (omega arith))
-          ∙ sym (get_or-take (g - 1) (take g p) i 0 (omega arith))
+pub rotated_left : (n g : ℕ) (p order : List ℕ) → n ≡ g → order ≡ drop 1 (take n p) ++ take 1 (take n p) → length (take g p) ≡ g
+    → take g (order ++ drop n p) ≡ drop 1 (take g p) ++ take 1 (take g p)
+rotated_left n g p order e turned size =
+    let same = ap (λ m. drop 1 (take m p) ++ take 1 (take m p)) e in
+    front g order (drop n p)
+    (ap length (turned ∙ same) ∙ omega (arith, length-append (drop 1 (take g p)) (take 1 (take g p)), length-drop 1 (take g p), length-take 1 (take g p)))
+    ∙ turned ∙ same
+
+-- The last of a list of g, alone.
+last-alone : (g : ℕ) (xs : List ℕ) → 1 ≤ g → length xs ≡ g → drop (g - 1) xs ≡ nth xs g ∷ []
+last-alone g xs some size = drop-cons xs (g - 1) 0 (omega arith) ∙ ap (λ l. nth xs g ∷ l) (drop_all (suc (g - 1)) xs (omega arith))
+
+pub rotated_right : (n g : ℕ) (p order : List ℕ) → 1 ≤ g → n ≡ g
+    → order ≡ drop (length (take n p) - 1) (take n p) ++ take (length (take n p) - 1) (take n p) → length (take g p) ≡ g
+    → take g (order ++ drop n p) ≡ nth (take g p) g ∷ take (g - 1) (take g p)
+rotated_right n g p order some e turned size =
+    let q = take g p in
+    let here : order ≡ drop (g - 1) q ++ take (g - 1) q
+    = turned ∙ ap (λ m. drop (length (take m p) - 1) (take m p) ++ take (length (take m p) - 1) (take m p)) e ∙ ap (λ m. drop (m - 1) q ++ take (m - 1) q) size
+    in
+    front g order (drop n p) (ap length here ∙ omega (arith, length-append (drop (g - 1) q) (take (g - 1) q), length-drop (g - 1) q, length-take (g - 1) q))
+    ∙ here ∙ ap (λ l. l ++ take (g - 1) q) (last-alone g q some size)

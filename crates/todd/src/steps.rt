@@ -1,12 +1,13 @@
 // Steps that K1 and J1 share. Every function is safe for any record; what it answers is said for records that are cells.
-ghost use Rattle.std.specs.Prelude.{◌≡◌, ℕ, ◌+◌, ◌-◌, ◌<◌, ◌≤◌, true, false, length, take, if◌then◌else◌, Some, None, Ok, slice_index, slice_index_or, slice_set};
-ghost use Rattle.cells.specs.Cells.{CornerAnswer, AcrossAnswer};
-ghost use Rattle.todd.specs.K1.{k1};
-ghost use Rattle.todd.specs.J1.{j1};
-ghost use Rattle.todd.specs.Steps.{level, shift, stop};
-ghost use Rattle.todd.specs.Walk.{step, Holds, corner_at, stop_number, Crosses, TurnedLeft, TurnedRight, middle_across};
+ghost use Rattle.std.specs.Prelude.{◌≡◌, ◌+◌, ◌-◌, ◌<◌, ◌≤◌, true, take, slice_index_or};
+ghost use Rattle.std.specs.Option.{option_map};
+ghost use Rattle.cells.specs.Ways.{wall_of, place_of};
+ghost use Rattle.todd_laws.specs.Steps.{level, step, shift, stop};
+ghost use Rattle.todd_laws.specs.Records.{Holds, corner_at, middle_across};
+ghost use Rattle.todd.specs.Walk.{Crosses};
 
 use cells::cell::Cell;
+use cells::wall::{Wall, Way};
 use mesh::grid::Grid;
 
 // One level moved by one. Past the ends of its type it stays.
@@ -21,181 +22,81 @@ fn stepped(up: bool, x: u32) -> u32
 }
 
 // Moves level j by one, where there is such a level.
-pub(crate) fn shift_level(levels: &mut [u32], up: bool, j: usize)
-    ensures { 1 ≤ j → j ≤ length levels.old → level levels.old j < 4294967295 → levels.new ≡ shift up levels.old j }
+pub(crate) fn shift_level(levels: &mut [u32], up: bool, j: u8)
+    ensures { level levels.old j < 4294967295 → levels.new ≡ shift up levels.old j }
 {
-    if j >= 1 && j <= levels.len() {
-        levels[j - 1] = stepped(up, levels[j - 1]);
+    let i = usize::from(j).saturating_sub(1);
+    if i < levels.len() {
+        levels[i] = stepped(up, levels[i]);
     }
+}
+
+// Level j; 0 past the last.
+fn level(levels: &[u32], j: usize) -> u32
+    ensures { result ≡ level levels.now j }
+{
+    levels.get(j.saturating_sub(1)).copied().unwrap_or(0)
 }
 
 // The direction of level j.
-#[tactic(auto, using(crate::proofs::Walking::same_way))]
-pub(crate) fn upward(cell: &Cell, j: usize) -> bool
-    ensures { 1 ≤ j → j ≤ 8 → j ≤ length cell.now.ups → result ≡ slice_index_or cell.now.ups (j - 1) true }
+pub(crate) fn upward(cell: &Cell, j: u8) -> bool
+    ensures { result ≡ slice_index_or cell.now.ups (j - 1) true }
 {
-    if j >= 1 && j <= 8 {
-        cell.ups[j - 1]
-    } else {
-        true
-    }
+    cell.ups
+        .get(usize::from(j).saturating_sub(1))
+        .copied()
+        .unwrap_or(true)
 }
 
-// From one corner to the next: the level that the order has at k moves by one in its direction.
-fn to_next_corner(levels: &mut [u32], cell: &Cell, k: usize)
-    requires { k < 8 }
-    ensures { let j = slice_index cell.now.order k in
-        1 ≤ j → j ≤ 8 → j ≤ length cell.now.ups → j ≤ length levels.old → level levels.old j < 4294967295
-        → levels.new ≡ shift (slice_index_or cell.now.ups (j - 1) true) levels.old j }
-{
-    let j = cell.order[k] as usize;
-    let up = upward(cell, j);
-    shift_level(levels, up, j);
-}
-
-// The levels of the corner at a place.
+// The levels of the corner at a place. From each corner to the next the next level of the order moves by one in its direction.
 pub(crate) fn corner_of(grid: &Grid, cell: &Cell, place: usize) -> [u32; 8]
     requires { place ≤ grid.now.goods }
-    ensures levels { Holds grid.now cell.now → take grid.now.goods result ≡ corner_at grid.now cell.now place }
-    ensures k1 { CornerAnswer (k1 grid.now.goods grid.now.mesh) cell.now place (Ok result) }
-    ensures j1 { CornerAnswer (j1 grid.now.goods grid.now.mesh) cell.now place (Ok result) }
+    ensures { Holds grid.now cell.now → take grid.now.goods result ≡ corner_at grid.now cell.now place }
 {
     let mut levels = cell.base;
-    for k in 0..place {
-        to_next_corner(&mut levels, cell, k);
+    for &j in &cell.order[..place] {
+        let up = upward(cell, j);
+        shift_level(&mut levels, up, j);
     }
     levels
 }
 
-// Level j of the corner at a place; 0 past the last level.
-fn level_of(grid: &Grid, cell: &Cell, place: usize, j: usize) -> u32
-    requires { place ≤ grid.now.goods }
-    ensures { Holds grid.now cell.now → 1 ≤ j → result ≡ level (corner_at grid.now cell.now place) j }
+// The wall that keeps level j of a corner from moving by one in a direction.
+fn stop(grid: &Grid, levels: &[u32], up: bool, j: u8) -> Option<Wall>
+    ensures { option_map wall_of result ≡ stop grid.now.mesh up levels.now j }
 {
-    if j < 1 {
-        return 0;
-    }
-    if j > grid.goods() {
-        return 0;
-    }
-    let up = upward(cell, j);
-    let mut x = cell.base[j - 1];
-    for k in 0..place {
-        if cell.order[k] as usize == j {
-            x = stepped(up, x);
+    let here = level(levels, usize::from(j));
+    match (up, j) {
+        (true, 1) => (here == grid.mesh() + 1).then_some(Wall::Outer),
+        (true, _) => {
+            let above = j.saturating_sub(1);
+            (here == level(levels, usize::from(above))).then_some(Wall::Good(above))
         }
+        (false, 1) if here == grid.mesh() => Some(Wall::Real),
+        (false, _) => (here == level(levels, usize::from(j) + 1)).then_some(Wall::Good(j)),
     }
-    x
 }
 
-// A wall's number where the test holds.
-fn wall_if(tied: bool, wall: u8) -> Option<u8>
-    ensures { result ≡ (if tied then Some wall else None) }
-{
-    if tied { Some(wall) } else { None }
-}
-
-// The wall that keeps level j of the corner at a place from moving up by one.
-pub(crate) fn stop_up(grid: &Grid, cell: &Cell, place: usize, j: usize) -> Option<u8>
+// The same at the corner at a place of a cell.
+pub(crate) fn stop_at(grid: &Grid, cell: &Cell, place: usize, up: bool, j: u8) -> Option<Wall>
     requires { place ≤ grid.now.goods }
-    ensures { Holds grid.now cell.now → 1 ≤ j → j ≤ grid.now.goods → result ≡ stop_number (stop grid.now.mesh true (corner_at grid.now cell.now place) j) }
+    ensures { Holds grid.now cell.now → option_map wall_of result ≡ stop grid.now.mesh up (corner_at grid.now cell.now place) j }
 {
-    if j < 1 {
-        return None;
-    }
-    if j > grid.goods() {
-        return None;
-    }
-    let here = level_of(grid, cell, place, j);
-    if j == 1 {
-        return wall_if(here == grid.mesh() + 1, 9);
-    }
-    let above = level_of(grid, cell, place, j - 1);
-    wall_if(here == above, (j - 1) as u8)
+    let levels = corner_of(grid, cell, place);
+    stop(grid, &levels[..grid.goods()], up, j)
 }
 
-// The wall that keeps level j of the corner at a place from moving down by one.
-pub(crate) fn stop_down(grid: &Grid, cell: &Cell, place: usize, j: usize) -> Option<u8>
-    requires { place ≤ grid.now.goods }
-    ensures { Holds grid.now cell.now → 1 ≤ j → j ≤ grid.now.goods → result ≡ stop_number (stop grid.now.mesh false (corner_at grid.now cell.now place) j) }
-{
-    if j < 1 {
-        return None;
-    }
-    if j > grid.goods() {
-        return None;
-    }
-    let here = level_of(grid, cell, place, j);
-    if j == 1 && here == grid.mesh() {
-        return Some(10);
-    }
-    let below = level_of(grid, cell, place, j + 1);
-    wall_if(here == below, j as u8)
-}
-
-// The wall that keeps level j of the corner at a place from moving by one in a direction.
-pub(crate) fn stop_at(grid: &Grid, cell: &Cell, place: usize, up: bool, j: usize) -> Option<u8>
-    requires { place ≤ grid.now.goods }
-    ensures { Holds grid.now cell.now → 1 ≤ j → j ≤ grid.now.goods → result ≡ stop_number (stop grid.now.mesh up (corner_at grid.now cell.now place) j) }
-{
-    if up {
-        stop_up(grid, cell, place, j)
-    } else {
-        stop_down(grid, cell, place, j)
-    }
-}
-
-// The order with its first entry moved to the end.
-pub(crate) fn turned_left(grid: &Grid, cell: &Cell) -> [u8; 8]
-    ensures { TurnedLeft grid.now.goods cell.now.order result }
-{
-    let goods = grid.goods();
-    let mut order = [0u8; 8];
-    for k in 1..goods {
-        order[k - 1] = cell.order[k];
-    }
-    order[goods - 1] = cell.order[0];
-    order
-}
-
-// The order with its last entry moved to the front.
-pub(crate) fn turned_right(grid: &Grid, cell: &Cell) -> [u8; 8]
-    ensures { TurnedRight grid.now.goods cell.now.order result }
-{
-    let goods = grid.goods();
-    let mut order = [0u8; 8];
-    for k in 1..goods {
-        order[k] = cell.order[k - 1];
-    }
-    order[0] = cell.order[goods - 1];
-    order
-}
-
-// The levels on both sides of a place change places in the order.
-fn swap(cell: &mut Cell, place: usize)
-    requires { (1 ≤ place) × (place < 8) }
-    ensures order { cell.new.order ≡ slice_set (slice_set cell.old.order (place - 1) (slice_index cell.old.order place)) place (slice_index cell.old.order (place - 1)) }
-    ensures base { cell.new.base ≡ cell.old.base }
-    ensures ups { cell.new.ups ≡ cell.old.ups }
-{
-    let before = cell.order[place - 1];
-    cell.order[place - 1] = cell.order[place];
-    cell.order[place] = before;
-}
-
-// Crosses a cell at a place between the first and the last.
-pub(crate) fn cross_middle(grid: &Grid, cell: &mut Cell, place: usize) -> (u8, u8)
+// Crosses a cell at a place between the first and the last: the levels on both sides of it change places in the order.
+pub(crate) fn cross_middle(grid: &Grid, cell: &mut Cell, place: usize) -> Way
     requires { (1 ≤ place) × (place < grid.now.goods) }
-    ensures crosses { Holds grid.now cell.old → Crosses grid.now.goods cell.old place (middle_across grid.now cell.old place) result cell.new }
-    ensures k1 { AcrossAnswer (k1 grid.now.goods grid.now.mesh) cell.old place (Ok result) cell.new }
-    ensures j1 { AcrossAnswer (j1 grid.now.goods grid.now.mesh) cell.old place (Ok result) cell.new }
+    ensures crosses { Holds grid.now cell.old → Crosses grid.now.goods cell.old (middle_across grid.now cell.old place) result cell.new }
+    ensures fits { place_of place result ≤ grid.now.goods }
 {
-    let j = cell.order[place] as usize;
+    let j = cell.order[place];
     let up = upward(cell, j);
-    let stop = stop_at(grid, cell, place - 1, up, j);
-    if let Some(wall) = stop {
-        return (place as u8, wall);
+    if let Some(wall) = stop_at(grid, cell, place - 1, up, j) {
+        return Way::Stopped(wall);
     }
-    swap(cell, place);
-    (place as u8, 0)
+    cell.order.swap(place - 1, place);
+    Way::Moved(place)
 }

@@ -1,8 +1,8 @@
 use Rattle.std.proofs.Common.{[], ◌∷◌, refl}
 use Rattle.labelling.specs.Labels.{Rule}
 use Rattle.labelling.specs.Sheets.{sheet_rule}
-use Rattle.todd.specs.K1.{k1}
-use Rattle.todd.specs.J1.{j1}
+use Rattle.todd_laws.specs.K1.{k1}
+use Rattle.todd_laws.specs.J1.{j1}
 use Rattle.figures.specs.Examples.{swap_rule, from_first}
 use Rattle.figures.proofs.Walks.{walk, walk-leads}
 use Rattle.figures.proofs.worked_examples.Goals as goal

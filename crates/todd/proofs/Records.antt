@@ -1,0 +1,104 @@
+-- Records that hold a cell: the entries of their tables, and one step from corner to corner.
+use Rattle.std.proofs.Common.{◌≡◌, ℕ, zero, suc, ◌+◌, ◌-◌, ◌<◌, ◌≤◌, Bool, true, false, not, cond, leb, List, [], ◌∷◌, length, get_or, take, set, sym, refl, ap, ◌∙◌, ⊎_elim, add-one, arith}
+use Rattle.std.proofs.Math.Seq.{take-set-lt}
+use Rattle.std.proofs.lemmas.List.{get_or-take, length-take}
+use Rattle.std.proofs.lemmas.Bool.{cond_both}
+use Rattle.mesh.specs.Prices.{first, Falls}
+use Rattle.mesh.specs.declared.grid.Grid.{Grid}
+use Rattle.cells.specs.Corners.{Corner}
+use Rattle.cells.specs.Triangulation.{Shape}
+use Rattle.cells.specs.Cells.{shape_of}
+use Rattle.cells.specs.declared.cell.Cell.{Cell}
+use Rattle.todd_laws.specs.Steps.{level, step, shift, nth}
+use Rattle.todd_laws.specs.J1.{upward, turned}
+use Rattle.todd_laws.specs.Records.{Holds, corner_at}
+use Rattle.todd_laws.proofs.Bridge.{shift_same}
+
+pub shape_is : (b c o p : List ℕ) (u v : List Bool) → b ≡ c → o ≡ p → u ≡ v
+    → ◌≡◌ {A = Shape} (record { base = b; order = o; ups = u }) (record { base = c; order = p; ups = v })
+shape_is b c o p u v e f h = cc
+
+pub take-shift : (up : Bool) (g : ℕ) (v : List ℕ) (j : ℕ) → j - 1 < g → take g (shift up v j) ≡ shift up (take g v) j
+take-shift true g v j h = take-set-lt g v (j - 1) _ h ∙ ap (λ x. set (take g v) (j - 1) (x + 1)) (sym (get_or-take g v (j - 1) 0 h))
+take-shift false g v j h = take-set-lt g v (j - 1) _ h ∙ ap (λ x. set (take g v) (j - 1) (x - 1)) (sym (get_or-take g v (j - 1) 0 h))
+
+-- No level is above the first, and no corner above the mesh and one.
+falls-small : (v : List ℕ) → Falls v → (j : ℕ) → get_or v j 0 ≤ first v
+falls-small [] f j = omega arith
+falls-small (x ∷ xs) f zero = omega arith
+falls-small (x ∷ xs) f (suc j) = omega (arith, falls-small xs f.1 j, f.0)
+
+corner-small : (g D : ℕ) (v : List ℕ) → Corner g D v → (j : ℕ) → get_or v j 0 ≤ suc D
+corner-small g D v c j = ⊎_elim (λ e. omega (arith, falls-small v c.falls j)) (λ e. omega (arith, falls-small v c.falls j)) c.top
+
+pub mesh-small : (d : Grid) → d.mesh ≤ 16384
+mesh-small d =
+    let all : cond (leb d.goods 4) 16384 128 ≤ 16384 = cond_both (leb d.goods 4) 16384 128 (λ n. n ≤ 16384) (λ e. omega arith) (λ e. omega arith) in
+    omega (arith, d.mesh_fits.1)
+
+step_small : (up : Bool) (x : ℕ) → x ≤ 16385 → step up x < 4294967295
+step_small true x h = omega arith
+step_small false x h = omega arith
+
+-- The n-th level of the order: it is j.
+module _ (d : Grid) (c : Cell) (holds : Holds d c) (n : ℕ) (some : 1 ≤ n) (most : n ≤ d.goods) (j : ℕ) (is : j ≡ get_or c.order (n - 1) 0) where
+  abbrev s : Shape
+  s = shape_of d.goods c
+
+  pub nth-is : j ≡ nth s.order n
+  nth-is = is ∙ sym (get_or-take d.goods c.order (n - 1) 0 (omega arith))
+
+  low : 1 ≤ j
+  low = omega (arith, nth-is, holds.order.low (n - 1) (omega arith))
+
+  high : j ≤ d.goods
+  high = omega (arith, nth-is, holds.order.high (n - 1) (omega arith))
+
+  in_g : j - 1 < d.goods
+  in_g = omega (arith, low, high)
+
+  pub way-is : (up : Bool) → up ≡ get_or c.ups (j - 1) true → up ≡ upward s (nth s.order n)
+  way-is up way = way ∙ sym (get_or-take d.goods c.ups (j - 1) true in_g) ∙ ap (upward s) nth-is
+
+  -- It moves in a table whose first levels are those of a corner.
+  pub moved_in : (k : ℕ) → k ≤ d.goods → (up : Bool) (levels after : List ℕ) → take d.goods levels ≡ corner_at d c k
+      → (level levels j < 4294967295 → after ≡ shift up levels j) → take d.goods after ≡ shift up (corner_at d c k) (nth s.order n)
+  moved_in k h up levels after e moves =
+      let small = corner-small d.goods d.mesh (corner_at d c k) (holds.corners k h) (j - 1) in
+      let room : level levels j < 4294967295
+      = omega (arith, small, mesh-small d, get_or-take d.goods levels (j - 1) 0 in_g, ap (λ v. get_or v (j - 1) 0) e)
+      in
+      ap (take d.goods) (moves room) ∙ take-shift up d.goods levels j in_g ∙ ap (λ v. shift up v j) e ∙ ap (shift up (corner_at d c k)) nth-is
+
+  -- It moves twice in the base.
+  pub moved_twice : (up : Bool) (once twice : List ℕ) → (level c.base j < 4294967295 → once ≡ shift up c.base j) → (level once j < 4294967295 → twice ≡ shift up once j)
+      → take d.goods twice ≡ shift up (shift up s.base (nth s.order n)) (nth s.order n)
+  moved_twice up once twice m1 m2 =
+      let small : level c.base j ≤ 16385
+      = omega (arith, corner-small d.goods d.mesh (corner_at d c 0) (holds.corners 0 (omega arith)) (j - 1), mesh-small d, get_or-take d.goods c.base (j - 1) 0 in_g)
+      in
+      let once_is = m1 (omega arith) in
+      let long : j - 1 < length c.base = omega (arith, in_g, holds.size, length-take d.goods c.base) in
+      let level-is = ap (λ v. level v j) once_is ∙ shift_same up c.base j long in
+      ap (take d.goods) (m2 (omega (arith, step_small up (level c.base j) small)))
+      ∙ take-shift up d.goods once j in_g
+      ∙ ap (λ v. shift up v j) (moved_in 0 (omega arith) up c.base once refl m1)
+      ∙ ap (shift up (shift up s.base (nth s.order n))) nth-is
+
+  -- Its direction turns round.
+  pub ups-turned : take d.goods (set c.ups (j - 1) (not (get_or c.ups (j - 1) true))) ≡ turned s (nth s.order n)
+  ups-turned =
+      take-set-lt d.goods c.ups (j - 1) _ in_g
+      ∙ ap (λ x. set s.ups (j - 1) (not x)) (sym (get_or-take d.goods c.ups (j - 1) true in_g))
+      ∙ ap (turned s) nth-is
+
+-- One more level of the order moves.
+pub corner-more : (d : Grid) (c : Cell) → Holds d c → (k : ℕ) → k < d.goods → (j : ℕ) → j ≡ get_or c.order k 0 → (up : Bool) → up ≡ get_or c.ups (j - 1) true
+    → (levels after : List ℕ) → take d.goods levels ≡ corner_at d c k → (level levels j < 4294967295 → after ≡ shift up levels j)
+    → take d.goods after ≡ corner_at d c (k + 1)
+corner-more d c holds k h j is up way levels after e moves =
+    let same : k ≡ suc k - 1 = omega arith in
+    let there = is ∙ ap (λ n. get_or c.order n 0) same in
+    moved_in d c holds (suc k) (omega arith) (omega arith) j there k (omega arith) up levels after e moves
+    ∙ ap (λ u. shift u (corner_at d c k) (nth (shape_of d.goods c).order (suc k))) (way-is d c holds (suc k) (omega arith) (omega arith) j there up way)
+    ∙ ap (corner_at d c) (sym (add-one k))

@@ -1,0 +1,5 @@
+pub mod Steps
+pub mod K1
+pub mod J1
+pub mod Laws
+pub mod Records
