@@ -1,22 +1,18 @@
-// Reading standard input into a buffer.
+// Reading standard input, and bytes that are written as hexadecimal digits.
 #![tactic(auto)]
 
-ghost use Rattle.std.specs.Prelude.{◌≤◌, length, IfOk};
+ghost use Rattle.std.specs.Prelude.{◌≤◌, IfOk, vec_len};
 
+pub use hexadecimal::decode;
+use std::alloc::Global;
 use std::io;
-use std::io::{Read, Stdin};
+use std::io::Read;
 
-// Reads until the input ends or the buffer is full, and answers how many bytes were read.
-pub fn fill(input: &mut Stdin, buf: &mut [u8]) -> io::Result<usize>
-    ensures { IfOk result (λ n. n ≤ length buf.new) }
+mod hexadecimal;
+
+// The first bytes of an input, at most so many.
+pub fn first_bytes<R: Read + Drop>(heap: Global, input: R, most: usize) -> io::Result<Vec<u8>>
+    ensures { IfOk result (λ bytes. vec_len bytes ≤ most) }
 {
-    let mut len = 0usize;
-    for _ in 0..1024usize {
-        let got = input.read(&mut buf[len..])?;
-        if got == 0 {
-            break;
-        }
-        len += got;
-    }
-    Ok(len)
+    input.bytes().take(most).try_collect(heap)
 }

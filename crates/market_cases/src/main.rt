@@ -1,76 +1,71 @@
 // Reads many market files, a line of hexadecimal digits each, and prints what each of them says or its fault.
 #![tactic(auto)]
 
-ghost use Rattle.std.specs.Prelude.{◌≤◌, length};
-
+use input::decode;
+use lines::fault_line;
 use market::file::MarketFile;
 use market::market::Market;
-use mesh::refusal::Refusal;
+use std::fmt;
 
-// The value of a hexadecimal digit; 0 for any other character.
-fn digit(c: u8) -> u8
-    ensures { result ≤ 15 }
-{
-    match c {
-        b'0'..=b'9' => c - b'0',
-        b'a'..=b'f' => c - b'a' + 10,
-        _ => 0,
+// The name of a good: a character for each byte.
+#[derive(Clone, Copy)]
+struct Name<'a>(&'a [u8]);
+
+impl<'a> fmt::Display for Name<'a> {
+    fn fmt<W: fmt::Write>(&self, f: &mut fmt::Formatter<W>) -> fmt::Result {
+        for b in self.0 {
+            write!(f, "{}", char::from(*b))?;
+        }
+        Ok(())
     }
 }
 
-// Writes the bytes that the digits stand for, as many as there is room for, and answers how many.
-fn decode(text: &[u8], bytes: &mut [u8]) -> usize
-    ensures { result ≤ length bytes.new }
-{
-    let count = (text.len() / 2).min(bytes.len());
-    for i in 0..count {
-        bytes[i] = digit(text[2 * i]) * 16 + digit(text[2 * i + 1]);
-    }
-    count
+// What a file says: its goods and their names, the sum of the weights, its traders, and what is owned.
+#[derive(Clone, Copy)]
+struct Said<'a> {
+    file: &'a MarketFile<'a>,
+    market: &'a Market,
 }
 
-fn print_market(rt: &HostRuntime, file: &MarketFile, market: &Market) -> anyhow::Result<()> {
-    let goods = market.goods();
-    let sum = market.weight_sum();
-    let traders = market.traders();
-    print!(rt; "goods {goods} sum {sum} traders {traders} owned")?;
-    for good in 1..goods + 1 {
-        if let Ok(owned) = market.owned_in_all(good) {
-            print!(rt; " {owned}")?;
-        }
-    }
-    print!(rt; " names ")?;
-    for good in 1..goods + 1 {
-        if good > 1 {
-            print!(rt; "|")?;
-        }
-        if let Ok(name) = file.name(good) {
-            for b in name {
-                let c = *b as char;
-                print!(rt; "{c}")?;
+impl<'a> fmt::Display for Said<'a> {
+    fn fmt<W: fmt::Write>(&self, f: &mut fmt::Formatter<W>) -> fmt::Result {
+        let market = self.market;
+        write!(
+            f,
+            "goods {} sum {} traders {} owned",
+            market.goods(),
+            market.weight_sum(),
+            market.traders()
+        )?;
+        for good in 1..=market.goods() {
+            if let Ok(owned) = market.owned_in_all(good) {
+                write!(f, " {owned}")?;
             }
         }
+        write!(f, " names ")?;
+        for good in 1..=market.goods() {
+            if good > 1 {
+                write!(f, "|")?;
+            }
+            if let Ok(name) = self.file.name(good) {
+                write!(f, "{}", Name(name))?;
+            }
+        }
+        Ok(())
     }
-    println!(rt; "")?;
-    Ok(())
-}
-
-fn print_fault(rt: &HostRuntime, refusal: Refusal) -> anyhow::Result<()> {
-    let number = refusal.number();
-    let carried = refusal.carried().unwrap_or(0);
-    println!(rt; "fault {number} at {carried}")?;
-    Ok(())
 }
 
 fn main(rt: HostRuntime) -> anyhow::Result<()> {
     for line in rt.lines(rt.alloc()) {
         let line = line?;
-        let mut bytes = [0u8; 1024];
-        let count = decode(line.as_bytes(), &mut bytes);
-        let file = MarketFile::open(&bytes[0..count]);
+        let mut room = [0u8; 1024];
+        let file = MarketFile::open(decode(line.as_bytes(), &mut room));
         match file.market() {
-            Ok(market) => print_market(&rt, &file, &market)?,
-            Err(refusal) => print_fault(&rt, refusal)?,
+            Ok(market) => rt.println(Said {
+                file: &file,
+                market: &market,
+            })?,
+            Err(refusal) => rt.println(fault_line(rt.alloc(), refusal)?)?,
         }
     }
     Ok(())

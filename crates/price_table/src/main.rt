@@ -1,37 +1,23 @@
 // Reads a market file, and prints its goods, its traders, and a line for each price point of mesh 4.
 #![tactic(auto)]
 
-ghost use Rattle.std.specs.Prelude.{◌≤◌, length, IfOk};
-
+use input::first_bytes;
 use lines::{LineError, fault_line, good_line, point_line, traders_line};
 use market::file::MarketFile;
 use market::market::Market;
 use mesh::grid::Grid;
 use mesh::point::PricePoint;
 use std::alloc::Global;
-use std::io;
-use std::io::{Read, Stdin};
+use std::{io, iter};
+
+// How much of the input is read: more than the largest market file has.
+const MOST_BYTES: usize = 1024;
 
 // The mesh of the printed price points.
 const MESH: u32 = 4;
 
 // Eight goods have 330 price points of that mesh, fewer goods have fewer.
 const MOST_POINTS: usize = 330;
-
-// Reads until the input ends or the buffer is full, and answers how many bytes were read.
-fn fill(input: &mut Stdin, buf: &mut [u8]) -> io::Result<usize>
-    ensures { IfOk result (λ n. n ≤ length buf.new) }
-{
-    let mut len = 0usize;
-    for _ in 0..1024usize {
-        let got = input.read(&mut buf[len..])?;
-        if got == 0 {
-            break;
-        }
-        len += got;
-    }
-    Ok(len)
-}
 
 // The line of one good.
 fn good_of(
@@ -47,7 +33,7 @@ fn good_of(
 
 // A line for each good, and one for the traders.
 fn print_head(rt: &HostRuntime, file: &MarketFile, market: &Market) -> io::Result<()> {
-    for good in 1..market.goods() + 1 {
+    for good in 1..=market.goods() {
         rt.println(good_of(rt.alloc(), file, market, good)?)?;
     }
     rt.println(traders_line(rt.alloc(), market.traders(), market.weight_sum())?)
@@ -60,21 +46,16 @@ fn first_point(market: &Market) -> Result<PricePoint, LineError> {
 
 // A line for each price point.
 fn print_points(rt: &HostRuntime, market: &Market) -> io::Result<()> {
-    let mut point = first_point(market)?;
-    for _ in 0..MOST_POINTS {
+    let first = first_point(market)?;
+    for point in iter::successors(Some(first), |point| point.next()).take(MOST_POINTS) {
         rt.println(point_line(rt.alloc(), market, &point)?)?;
-        let Some(next) = point.next() else {
-            break;
-        };
-        point = next;
     }
     Ok(())
 }
 
 fn main(rt: HostRuntime) -> io::Result<()> {
-    let mut bytes = [0u8; 1024];
-    let len = fill(&mut rt.stdin(), &mut bytes)?;
-    let file = MarketFile::open(&bytes[0..len]);
+    let bytes = first_bytes(rt.alloc(), rt.stdin(), MOST_BYTES)?;
+    let file = MarketFile::open(bytes.as_slice());
     match file.market() {
         Ok(market) => {
             print_head(&rt, &file, &market)?;

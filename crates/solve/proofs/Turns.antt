@@ -1,6 +1,6 @@
 -- Turns of stepping.
 --   Stepped, OneStep    so many steps were made, and moved; one more was made
---   begins, ends        before the first step; the most steps were made
+--   ends                the most steps were made
 --   turn, last_turn     a turn of the loop: one more step was made, and it moved or did not
 use Rattle.std.proofs.Common.{◌≡◌, ℕ, suc, ◌+◌, ◌<◌, ◌≤◌, true, false, List, None, Ok, Err, Option, Result, sym, refl, ap, ◌∙◌, subst, inl, inr, ⊎_elim, add-one, arith}
 use Rattle.std.proofs.lemmas.Bool.{cases_lt}
@@ -63,9 +63,6 @@ module _ (T : (g D : ℕ) → Mesh Shape g D) (L : Rule) where
   -- Whatever opening and calls left the record s, stepping on answers r and leaves the record w.
   abbrev pub Ends : ℕ → Option Ticket → State → State → Type 0
   Ends most r s w = (o : Opening) (calls : List Call) → Came T L o calls s → Reaches T L o calls most r w
-
-  pub begins : (s : State) → Stepped 0 s s
-  begins s o calls came = record { came = came; moved = λ i low high. absurd (omega arith) }
 
   pub ends : (made most : ℕ) (s w : State) → made ≡ most → Stepped made s w → Ends most None s w
   ends made most s w all before o calls came =

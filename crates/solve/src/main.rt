@@ -2,12 +2,11 @@
 #![tactic(auto)]
 
 use cells::Triangulation;
-use input::fill;
+use input::first_bytes;
 use labelling::Labelling;
 use lines::{LineError, arrival_line, fault_line, open_line};
 use market::file::MarketFile;
 use market::market::Market;
-use mesh::refusal::Refusal;
 use reaching::reach;
 use std::alloc::Global;
 use std::io;
@@ -15,6 +14,9 @@ use todd::k1::K1;
 use walk::run::{Run, Ticket};
 
 mod reaching;
+
+// How much of the input is read: more than the largest market file has.
+const MOST_BYTES: usize = 1024;
 
 // The first mesh.
 const MESH: u32 = 4;
@@ -27,27 +29,16 @@ const FACTOR: u32 = 2;
 // How many steps are taken on a mesh at most.
 const MOST_STEPS: u32 = 1_000_000;
 
-// The prices of the corners labelled 1, 2 and so on, of a run that has arrived.
-fn arrived_corners<T: Triangulation, L: Labelling>(
-    run: &Run<T, L>,
-    corners: &mut [[u32; 8]],
-) -> Result<(), Refusal> {
-    for j in 0..corners.len() {
-        corners[j] = run.look_for(j + 1)?;
-    }
-    Ok(())
-}
-
 // The line of an arrival: the mesh, the cells on it, the prices of the corners labelled 1 to the number of goods.
 fn arrived_line<T: Triangulation, L: Labelling>(
     heap: Global,
     run: &Run<T, L>,
 ) -> Result<String, LineError> {
     let look = run.look();
-    let mut table = [[0u32; 8]; 8];
-    let corners = &mut table[0..look.goods.min(8)];
-    arrived_corners(run, corners)?;
-    Ok(arrival_line(heap, look.mesh, look.count, look.goods, corners)?)
+    let corners: Vec<[u32; 8]> = (1..=look.goods)
+        .map(|label| run.look_for(label).map_err(LineError::from))
+        .try_collect(heap)?;
+    Ok(arrival_line(heap, look.mesh, look.count, look.goods, corners.as_slice())?)
 }
 
 // Walks on one mesh, prints its line, and answers the ticket of an arrival.
@@ -55,16 +46,12 @@ fn walk_mesh<T: Triangulation, L: Labelling>(
     rt: &HostRuntime,
     run: &mut Run<T, L>,
 ) -> io::Result<Option<Ticket>> {
-    match reach(run, MOST_STEPS) {
-        Some(ticket) => {
-            rt.println(arrived_line(rt.alloc(), run)?)?;
-            Ok(Some(ticket))
-        }
-        None => {
-            rt.println(open_line(rt.alloc(), run.look().mesh)?)?;
-            Ok(None)
-        }
-    }
+    let ticket = reach(run, MOST_STEPS);
+    rt.println(match ticket {
+        Some(_) => arrived_line(rt.alloc(), run)?,
+        None => open_line(rt.alloc(), run.look().mesh)?,
+    })?;
+    Ok(ticket)
 }
 
 // Makes the mesh finer, from the arrival that the ticket is of.
@@ -72,10 +59,7 @@ fn finer<T: Triangulation, L: Labelling>(
     run: &mut Run<T, L>,
     ticket: Ticket,
 ) -> Result<(), LineError> {
-    match run.refine(ticket, FACTOR) {
-        Ok(_) => Ok(()),
-        Err((refusal, _)) => Err(LineError::Refused(refusal)),
-    }
+    Ok(run.refine(ticket, FACTOR).map_err(|(refusal, _)| refusal)?)
 }
 
 // Opens a run that begins with the whole mesh on good 1.
@@ -101,9 +85,8 @@ fn print_walk<'a>(rt: &HostRuntime, tri: &'a K1, market: &'a Market) -> io::Resu
 }
 
 fn main(rt: HostRuntime) -> io::Result<()> {
-    let mut bytes = [0u8; 1024];
-    let len = fill(&mut rt.stdin(), &mut bytes)?;
-    let file = MarketFile::open(&bytes[0..len]);
+    let bytes = first_bytes(rt.alloc(), rt.stdin(), MOST_BYTES)?;
+    let file = MarketFile::open(bytes.as_slice());
     match file.market() {
         Ok(market) => print_walk(&rt, &K1, &market),
         Err(refusal) => rt.println(fault_line(rt.alloc(), refusal)?),

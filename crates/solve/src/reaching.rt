@@ -1,5 +1,6 @@
 // Stepping a run to its arrival.
-ghost use Rattle.std.specs.Prelude.{◌≡◌, List};
+ghost use Rattle.std.specs.Prelude.{◌≡◌, true, false, List};
+ghost use Rattle.std.specs.ControlFlow.{MatchControlFlow};
 ghost use Rattle.path.specs.Path.{Opening, Call};
 ghost use Rattle.solve.specs.Reaching.{Reaches, is_move, ticket_in};
 ghost use Rattle.walk.specs.Showing.{Came};
@@ -7,25 +8,17 @@ ghost use Rattle.walk.specs.Showing.{Came};
 use cells::Triangulation;
 use labelling::Labelling;
 use mesh::refusal::Refusal;
+use std::ops::ControlFlow;
 use walk::run::{Progress, Run, Ticket};
 
-// A step moved.
-fn moved(answer: &Result<Progress, Refusal>) -> bool
-    ensures { result ≡ is_move answer.now }
+// After a step that moved the walk goes on. After any other it ends, with the ticket of an arrival.
+fn after(answer: Result<Progress, Refusal>) -> ControlFlow<Option<Ticket>>
+    ensures { MatchControlFlow result (λ _. is_move answer ≡ true) (λ ticket. (is_move answer ≡ false) × (ticket ≡ ticket_in answer)) }
 {
     match answer {
-        Ok(Progress::Moved) => true,
-        _ => false,
-    }
-}
-
-// The ticket of a step that arrived.
-fn ticket_of(answer: Result<Progress, Refusal>) -> Option<Ticket>
-    ensures { result ≡ ticket_in answer }
-{
-    match answer {
-        Ok(Progress::Arrived(ticket)) => Some(ticket),
-        _ => None,
+        Ok(Progress::Moved) => ControlFlow::Continue(()),
+        Ok(Progress::Arrived(ticket)) => ControlFlow::Break(Some(ticket)),
+        _ => ControlFlow::Break(None),
     }
 }
 
@@ -38,9 +31,8 @@ pub(crate) fn reach<T: Triangulation, L: Labelling>(
     ensures borrows { (run.new.tri.now ≡ run.old.tri.now) × (run.new.labels.now ≡ run.old.labels.now) }
 {
     for made in 0..most {
-        let answer = run.step();
-        if !moved(&answer) {
-            return ticket_of(answer);
+        if let ControlFlow::Break(ticket) = after(run.step()) {
+            return ticket;
         }
     }
     None

@@ -1,6 +1,5 @@
 // Reading the parts of a case. A word that is no number reads as 0.
-ghost use Rattle.std.specs.Prelude.{◌≤◌, length};
-
+use input::decode;
 use labelling::sheet::Sheet;
 use market::market::Market;
 use market::reader::read;
@@ -17,40 +16,17 @@ pub struct Opening {
     pub start: Vec<u32>,
 }
 
-// The value of a hexadecimal digit; 0 for any other character.
-fn digit(c: u8) -> u8
-    ensures { result ≤ 15 }
-{
-    match c {
-        b'0'..=b'9' => c - b'0',
-        b'a'..=b'f' => c - b'a' + 10,
-        _ => 0,
-    }
-}
-
-// Writes the bytes that hexadecimal digits stand for, as many as there is room for, and answers how many.
-fn decode(text: &[u8], bytes: &mut [u8]) -> usize
-    ensures { result ≤ length bytes.new }
-{
-    let count = (text.len() / 2).min(bytes.len());
-    for i in 0..count {
-        bytes[i] = digit(text[2 * i]) * 16 + digit(text[2 * i + 1]);
-    }
-    count
-}
-
 // A market: the bytes of its file.
 pub fn read_market(digits: &str) -> Result<Market, Refusal> {
-    let mut bytes = [0u8; 1024];
-    let count = decode(digits.as_bytes(), &mut bytes);
-    read(&bytes[0..count])
+    let mut room = [0u8; 1024];
+    read(decode(digits.as_bytes(), &mut room))
 }
 
 // A sheet: its labels, of which there is one more than its mesh.
 pub fn read_sheet(digits: &str) -> Result<Sheet, Refusal> {
-    let mut bytes = [0u8; 128];
-    let count = decode(digits.as_bytes(), &mut bytes);
-    Sheet::new(count.saturating_sub(1) as u32, &bytes[0..count])
+    let mut room = [0u8; 128];
+    let labels = decode(digits.as_bytes(), &mut room);
+    Sheet::new(labels.len().saturating_sub(1) as u32, labels)
 }
 
 // Run number, goods, mesh, and the start prices.
