@@ -1,17 +1,36 @@
 // Plays the cases of standard input, one to a line, and prints what the opening and every call answer.
 #![tactic(auto)]
 
-use crate::printing::{print_played, print_refusal};
+use crate::printing::{Refused, Shown};
 use crate::reading::{Opening, read_calls, read_market, read_opening, read_sheet};
 use cells::Triangulation;
 use labelling::Labelling;
 use std::io;
 use todd::j1::J1;
 use todd::k1::K1;
-use walk::play::{Call, play};
+use walk::play::{Call, Played, play};
 
 mod printing;
 mod reading;
+
+// What the last call answered, and after the whole list a look.
+fn print_played(rt: &HostRuntime, played: &Played, ended: bool) -> io::Result<()> {
+    let goods = played.look.goods;
+    match &played.last {
+        Ok(said) => println!(rt; "{}", Shown { goods, value: said })?,
+        Err(refusal) => println!(rt; "{}", Refused(*refusal))?,
+    }
+    if ended {
+        println!(rt;
+            "{}",
+            Shown {
+                goods,
+                value: &played.look
+            }
+        )?;
+    }
+    Ok(())
+}
 
 // Plays every front of the list of calls, so that each call's answer is seen, and prints it; at the end a last look.
 fn play_case<T: Triangulation, L: Labelling>(
@@ -33,7 +52,7 @@ fn play_case<T: Triangulation, L: Labelling>(
             &calls[0..n],
         ) {
             Ok(played) => print_played(rt, &played, n == calls.len())?,
-            Err(refusal) => return print_refusal(rt, refusal),
+            Err(refusal) => return println!(rt; "{}", Refused(refusal)),
         }
     }
     Ok(())
@@ -51,12 +70,12 @@ fn play_over<T: Triangulation>(
     if name == "sheet" {
         match read_sheet(digits) {
             Ok(sheet) => play_case(rt, opening, calls, tri, &sheet),
-            Err(refusal) => print_refusal(rt, refusal),
+            Err(refusal) => println!(rt; "{}", Refused(refusal)),
         }
     } else {
         match read_market(digits) {
             Ok(market) => play_case(rt, opening, calls, tri, &market),
-            Err(refusal) => print_refusal(rt, refusal),
+            Err(refusal) => println!(rt; "{}", Refused(refusal)),
         }
     }
 }
