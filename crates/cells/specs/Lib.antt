@@ -2,3 +2,4 @@ pub mod Corners
 pub mod Triangulation
 pub mod Counting
 pub mod Cells
+pub mod Ways

@@ -15,6 +15,7 @@ use mesh::refusal::Refusal;
 
 pub mod cell;
 pub mod outer;
+pub mod wall;
 
 // A triangulation: for every number of goods and every mesh, cells with corners and neighbours that keep the laws.
 pub trait Triangulation {
