@@ -1,12 +1,11 @@
 // Playing a list of calls.
-ghost use Rattle.std.specs.Prelude.{◌≡◌, ℕ, List, Ok, map, reverse};
-ghost use Rattle.path.specs.Path.{Opening, Call as PathCall};
+ghost use Rattle.std.specs.Prelude.{◌≡◌, ℕ, Ok, map, reverse};
 ghost use Rattle.state.specs.Views.{goods_of};
 ghost use Rattle.walk.specs.Answers.{stepped};
 ghost use Rattle.walk.specs.Playing.{call_of, said_of, PlayAnswer};
-ghost use Rattle.walk.specs.Showing.{Came, Goes};
+ghost use Rattle.walk.specs.Showing.{opening_of, Makes};
 
-use crate::run::{Look, Progress, Run, Ticket};
+use crate::run::{Look, Opening, Progress, Run, Ticket};
 use cells::Triangulation;
 use labelling::Labelling;
 use mesh::refusal::Refusal;
@@ -53,7 +52,7 @@ impl From<Progress> for Said {
 
 // One call, with its arguments.
 fn make<T: Triangulation, L: Labelling>(run: &mut Run<T, L>, call: Call) -> Result<Said, Refusal>
-    ensures goes { (o : Opening) (calls : List PathCall) → Came (T.meaning run.old.tri.now) (L.rule run.old.labels.now) o calls run.old.state → Goes (T.meaning run.old.tri.now) (L.rule run.old.labels.now) o calls (call_of call) (said_of (goods_of run.old.state) result) run.new.state }
+    ensures goes { Makes (T.meaning run.old.tri.now) (L.rule run.old.labels.now) run.old.state (call_of call) (said_of (goods_of run.old.state) result) run.new.state }
     ensures borrows { (run.new.tri.now ≡ run.old.tri.now) × (run.new.labels.now ≡ run.old.labels.now) }
 {
     match call {
@@ -71,17 +70,14 @@ fn make<T: Triangulation, L: Labelling>(run: &mut Run<T, L>, call: Call) -> Resu
 
 // Opens a run, makes the calls one after the other, whatever they answer, and answers the last answer and a last look. Refuses only where opening does.
 pub fn play<'a, T: Triangulation, L: Labelling>(
-    number: u16,
-    goods: usize,
-    mesh: u32,
-    start: &[u32],
+    opening: Opening,
     tri: &'a T,
     labels: &'a L,
     calls: &[Call],
 ) -> Result<Played, Refusal>
-    ensures { PlayAnswer (T.meaning tri.now) (L.rule labels.now) (record { number = number; goods = goods; mesh = mesh; start = start.now }) (reverse (map call_of calls.now)) result }
+    ensures { PlayAnswer (T.meaning tri.now) (L.rule labels.now) (opening_of opening.entry) (reverse (map call_of calls.now)) result }
 {
-    let mut run = Run::open(number, goods, mesh, start, tri, labels)?;
+    let mut run = Run::open(opening, tri, labels)?;
     let mut last = Ok(Said::Began);
     for call in calls {
         last = make(&mut run, *call);

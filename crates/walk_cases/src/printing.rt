@@ -1,5 +1,4 @@
 // The text of what calls answer.
-use mesh::refusal::Refusal;
 use state::corner::Corner;
 use state::record::Stage;
 use std::fmt;
@@ -20,16 +19,6 @@ impl<'a, T> Shown<'a, T> {
             goods: self.goods,
             value,
         }
-    }
-}
-
-// A refusal, by its number.
-#[derive(Clone, Copy)]
-pub struct Refused(pub Refusal);
-
-impl fmt::Display for Refused {
-    fn fmt<W: fmt::Write>(&self, f: &mut fmt::Formatter<W>) -> fmt::Result {
-        write!(f, "refused {}", self.0.number())
     }
 }
 

@@ -1,11 +1,11 @@
 // Looking.
-ghost use Rattle.std.specs.Prelude.{◌≡◌, ◌≤◌, List, MatchOption};
+ghost use Rattle.std.specs.Prelude.{◌≡◌, ◌≤◌, MatchOption};
 ghost use Rattle.mesh.specs.Range.{between};
-ghost use Rattle.path.specs.Path.{Opening, Call, look, look_for, sight};
+ghost use Rattle.path.specs.Path.{look, look_for, sight};
 ghost use Rattle.state.specs.Views.{view_of, goods_of, sight_of, NoCarrier};
 ghost use Rattle.walk.specs.Answers.{looked, found};
 ghost use Rattle.walk.specs.Records.{PricesOf};
-ghost use Rattle.walk.specs.Showing.{Came, Goes};
+ghost use Rattle.walk.specs.Showing.{Makes};
 
 use super::{Look, Run};
 use cells::Triangulation;
@@ -39,14 +39,14 @@ impl<'a, T: Triangulation, L: Labelling> Run<'a, T, L> {
     // All that a look shows.
     pub fn look(&self) -> Look
         ensures sight { looked result ≡ sight_of self.now.state }
-        ensures goes { (o : Opening) (calls : List Call) → Came (T.meaning self.now.tri.now) (L.rule self.now.labels.now) o calls self.now.state → Goes (T.meaning self.now.tri.now) (L.rule self.now.labels.now) o calls look (sight (looked result)) self.now.state }
+        ensures goes { Makes (T.meaning self.now.tri.now) (L.rule self.now.labels.now) self.now.state look (sight (looked result)) self.now.state }
     {
         seen(&self.state)
     }
 
     // The prices of the arrived corner with a label. Refuses a run that has not arrived, then anything but a good.
     pub fn look_for(&self, label: usize) -> Result<[u32; 8], Refusal>
-        ensures goes { (o : Opening) (calls : List Call) → Came (T.meaning self.now.tri.now) (L.rule self.now.labels.now) o calls self.now.state → Goes (T.meaning self.now.tri.now) (L.rule self.now.labels.now) o calls (look_for label) (found (goods_of self.now.state) result) self.now.state }
+        ensures goes { Makes (T.meaning self.now.tri.now) (L.rule self.now.labels.now) self.now.state (look_for label) (found (goods_of self.now.state) result) self.now.state }
     {
         let Some(dropped) = self.state.arrived() else {
             return Err(Refusal::NotArrived);

@@ -1,11 +1,11 @@
 // Refining.
-ghost use Rattle.std.specs.Prelude.{◌≡◌, ◌*◌, List};
+ghost use Rattle.std.specs.Prelude.{◌≡◌, ◌*◌};
 ghost use Rattle.mesh.specs.Refusals.{answered};
-ghost use Rattle.path.specs.Path.{Opening, Call, refine};
+ghost use Rattle.path.specs.Path.{refine};
 ghost use Rattle.state.specs.Views.{view_of, goods_of};
 ghost use Rattle.walk.specs.Answers.{refined, made_finer, after, HandedBack};
 ghost use Rattle.walk.specs.Records.{accepting, finer_mesh};
-ghost use Rattle.walk.specs.Showing.{Came, Goes};
+ghost use Rattle.walk.specs.Showing.{Makes};
 
 use super::{Run, Ticket};
 use crate::starting::stand;
@@ -35,7 +35,7 @@ impl<'a, T: Triangulation, L: Labelling> Run<'a, T, L> {
     // Begins again on a mesh finer by a factor, from the arrived corner with label 1. Takes the ticket of the arrival, and hands it back where it refuses: a
     // run that has not arrived or another's ticket, then a factor outside 2 to 64, then a mesh above the finest, then a start that is not admitted.
     pub fn refine(&mut self, ticket: Ticket, factor: u32) -> Result<(), (Refusal, Ticket)>
-        ensures goes { (o : Opening) (calls : List Call) → Came (T.meaning self.old.tri.now) (L.rule self.old.labels.now) o calls self.old.state → Goes (T.meaning self.old.tri.now) (L.rule self.old.labels.now) o calls (refine ticket.number ticket.mesh factor) (refined result) self.new.state }
+        ensures goes { Makes (T.meaning self.old.tri.now) (L.rule self.old.labels.now) self.old.state (refine ticket.number ticket.mesh factor) (refined result) self.new.state }
         ensures back { HandedBack ticket self.old.state result self.new.state }
         ensures borrows { (self.new.tri.now ≡ self.old.tri.now) × (self.new.labels.now ≡ self.old.labels.now) }
     {
@@ -50,7 +50,7 @@ impl<'a, T: Triangulation, L: Labelling> Run<'a, T, L> {
 
     // The record of the run as it begins on the finer mesh.
     fn finer(&self, ticket: &Ticket, factor: u32) -> Result<State, Refusal>
-        ensures { (o : Opening) (calls : List Call) → Came (T.meaning self.now.tri.now) (L.rule self.now.labels.now) o calls self.now.state → Goes (T.meaning self.now.tri.now) (L.rule self.now.labels.now) o calls (refine ticket.now.number ticket.now.mesh factor) (made_finer result) (after self.now.state result) }
+        ensures { Makes (T.meaning self.now.tri.now) (L.rule self.now.labels.now) self.now.state (refine ticket.now.number ticket.now.mesh factor) (made_finer result) (after self.now.state result) }
     {
         let dropped = self.accept(ticket)?;
         let goods = self.state.start.goods();

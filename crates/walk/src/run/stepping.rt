@@ -1,15 +1,15 @@
 // Stepping.
-ghost use Rattle.std.specs.Prelude.{◌≡◌, ◌≤◌, List, Ok, ◌==◌};
+ghost use Rattle.std.specs.Prelude.{◌≡◌, ◌≤◌, Ok, ◌==◌};
 ghost use Rattle.cells.specs.Cells.{shape_of, wall_code};
 ghost use Rattle.cells.specs.Corners.{Corner, real_wall};
 ghost use Rattle.cells.specs.Triangulation.{moved};
 ghost use Rattle.mesh.specs.Points.{prices_of};
 ghost use Rattle.path.specs.Legs.{label};
-ghost use Rattle.path.specs.Path.{Opening, Call, step, ticket};
+ghost use Rattle.path.specs.Path.{step, ticket};
 ghost use Rattle.state.specs.Views.{view_of, goods_of, levels_at, arriving};
 ghost use Rattle.walk.specs.Answers.{stepped, WhenRefused};
 ghost use Rattle.walk.specs.Records.{crossed};
-ghost use Rattle.walk.specs.Showing.{Came, Goes};
+ghost use Rattle.walk.specs.Showing.{Makes};
 
 use super::{Progress, Run, Ticket};
 use crate::starting::label_of;
@@ -35,7 +35,7 @@ fn is_no_wall(code: u8) -> bool
 impl<'a, T: Triangulation, L: Labelling> Run<'a, T, L> {
     // One step. Refuses a run that is not walking.
     pub fn step(&mut self) -> Result<Progress, Refusal>
-        ensures goes { (o : Opening) (calls : List Call) → Came (T.meaning self.old.tri.now) (L.rule self.old.labels.now) o calls self.old.state → Goes (T.meaning self.old.tri.now) (L.rule self.old.labels.now) o calls step (stepped (goods_of self.old.state) result) self.new.state }
+        ensures goes { Makes (T.meaning self.old.tri.now) (L.rule self.old.labels.now) self.old.state step (stepped (goods_of self.old.state) result) self.new.state }
         ensures kept { WhenRefused result (self.new.state ≡ self.old.state) }
         ensures borrows { (self.new.tri.now ≡ self.old.tri.now) × (self.new.labels.now ≡ self.old.labels.now) }
     {

@@ -3,12 +3,11 @@ ghost use Rattle.std.specs.Prelude.{◌≡◌, [], IfOk, Ok};
 ghost use Rattle.mesh.specs.Points.{goods_of, mesh_of, prices_of};
 ghost use Rattle.mesh.specs.Refusals.{answered, insist};
 ghost use Rattle.path.specs.Claim.{Claim};
-ghost use Rattle.path.specs.Path.{Opening};
 ghost use Rattle.state.specs.Views.{view_of};
 ghost use Rattle.walk.specs.Records.{fresh};
-ghost use Rattle.walk.specs.Showing.{Came, opened, opening};
+ghost use Rattle.walk.specs.Showing.{Came, opened, opening_of, opening as opening_path};
 
-use super::Run;
+use super::{Opening, Run};
 use crate::starting::stand;
 use cells::Triangulation;
 use labelling::Labelling;
@@ -24,22 +23,19 @@ fn first<T: Triangulation>(tri: &T, number: u16, point: PricePoint) -> Result<St
 }
 
 impl<'a, T: Triangulation, L: Labelling> Run<'a, T, L> {
-    // Opens a run at a start point, handed as its prices. Refuses goods, mesh and prices as a price point does, then a start that is not admitted.
+    // Opens a run at a start point. Refuses goods, mesh and prices as a price point does, then a start that is not admitted.
     pub fn open(
-        number: u16,
-        goods: usize,
-        mesh: u32,
-        start: &[u32],
+        opening: Opening,
         tri: &'a T,
         labels: &'a L,
     ) -> Result<Run<'a, T, L>, Refusal>
-        ensures answer { answered (λ run. view_of run.state) result ≡ opened (T.meaning tri.now) (L.rule labels.now) (record { number = number; goods = goods; mesh = mesh; start = start.now }) }
-        ensures came { IfOk result (λ run. Came (T.meaning tri.now) (L.rule labels.now) (record { number = number; goods = goods; mesh = mesh; start = start.now }) [] run.state) }
-        ensures claim { IfOk result (λ run. Claim (T.meaning tri.now) (L.rule labels.now) (record { number = number; goods = goods; mesh = mesh; start = start.now }) (opening (T.meaning tri.now) (L.rule labels.now) (record { number = number; goods = goods; mesh = mesh; start = start.now }))) }
+        ensures answer { answered (λ run. view_of run.state) result ≡ opened (T.meaning tri.now) (L.rule labels.now) (opening_of opening.entry) }
+        ensures came { IfOk result (λ run. Came (T.meaning tri.now) (L.rule labels.now) (opening_of opening.entry) [] run.state) }
+        ensures claim { IfOk result (λ run. Claim (T.meaning tri.now) (L.rule labels.now) (opening_of opening.entry) (opening_path (T.meaning tri.now) (L.rule labels.now) (opening_of opening.entry))) }
         ensures borrows { IfOk result (λ run. (run.tri.now ≡ tri.now) × (run.labels.now ≡ labels.now)) }
     {
-        let point = PricePoint::new(goods, mesh, start)?;
-        let state = first(tri, number, point)?;
+        let point = PricePoint::new(opening.goods, opening.mesh, opening.start)?;
+        let state = first(tri, opening.number, point)?;
         Ok(Run { tri, labels, state })
     }
 }
