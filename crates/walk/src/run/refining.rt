@@ -21,14 +21,14 @@ use state::record::State;
 fn finer_mesh(goods: usize, mesh: u32, factor: u32) -> Result<u32, Refusal>
     ensures { answered (λ m. m) result ≡ finer_mesh goods mesh factor }
 {
-    if factor < 2 || factor > 64 {
+    if !(2..=64).contains(&factor) {
         return Err(Refusal::FactorOutOfRange);
     }
-    let finer = u64::from(factor) * u64::from(mesh);
-    if finer > u64::from(finest(goods)) {
+    let finer = factor.saturating_mul(mesh);
+    if finer > finest(goods) {
         return Err(Refusal::FinerThanFinest);
     }
-    Ok(finer as u32)
+    Ok(finer)
 }
 
 impl<'a, T: Triangulation, L: Labelling> Run<'a, T, L> {
@@ -55,9 +55,7 @@ impl<'a, T: Triangulation, L: Labelling> Run<'a, T, L> {
         let dropped = self.accept(ticket)?;
         let goods = self.state.start.goods();
         let mesh = finer_mesh(goods, self.state.start.mesh(), factor)?;
-        let Some(prices) = self.kept(1, dropped) else {
-            return Err(Refusal::WayBlocked);
-        };
+        let prices = self.kept(1, dropped)?;
         let start = scaled(&prices, factor);
         let point = PricePoint::new(goods, mesh, &start[0..goods])?;
         stand(self.tri, self.state.number, self.state.total, point)
@@ -67,9 +65,7 @@ impl<'a, T: Triangulation, L: Labelling> Run<'a, T, L> {
     fn accept(&self, ticket: &Ticket) -> Result<usize, Refusal>
         ensures { answered (λ d. d) result ≡ accepting (view_of self.now.state) ticket.now.number ticket.now.mesh }
     {
-        let Some(dropped) = self.state.arrived() else {
-            return Err(Refusal::TicketNotAccepted);
-        };
+        let dropped = self.state.arrived().ok_or(Refusal::TicketNotAccepted)?;
         if ticket.number != self.state.number || ticket.mesh != self.state.start.mesh() {
             return Err(Refusal::TicketNotAccepted);
         }
