@@ -4,7 +4,17 @@ use mesh::refusal::Refusal;
 use std::mem::size_of;
 use std::test::Fail;
 use todd::k1::K1;
-use walk::run::{Progress, Run, Ticket};
+use walk::run::{Opening, Progress, Run, Ticket};
+
+// An opening at the price point of mesh 4 that is all good 1.
+fn on_mesh_4(number: u16) -> Opening<'static> {
+    Opening {
+        number,
+        goods: 2,
+        mesh: 4,
+        start: &[4, 0],
+    }
+}
 
 // Steps until the run arrives, and hands on the ticket.
 fn arrive(run: &mut Run<K1, Sheet>) -> Option<Ticket> {
@@ -37,8 +47,8 @@ fn runs_are_small(rt: HostRuntime) {
 fn tickets_come_back_until_they_are_used(rt: HostRuntime) -> Result<(), Fail> {
     let sheet = Sheet::new(4, &[1, 1, 1, 2, 2])?;
     let tri = K1;
-    let mut run = Run::open(7, 2, 4, &[4, 0], &tri, &sheet)?;
-    let mut other = Run::open(8, 2, 4, &[4, 0], &tri, &sheet)?;
+    let mut run = Run::open(on_mesh_4(7), &tri, &sheet)?;
+    let mut other = Run::open(on_mesh_4(8), &tri, &sheet)?;
     let Some(foreign) = arrive(&mut other) else {
         return Err(Fail::new("no arrival"));
     };
@@ -70,7 +80,7 @@ fn tickets_come_back_until_they_are_used(rt: HostRuntime) -> Result<(), Fail> {
 fn a_foreign_mesh_halts_at_once(rt: HostRuntime) -> Result<(), Fail> {
     let sheet = Sheet::new(4, &[1, 1, 1, 2, 2])?;
     let tri = K1;
-    let mut run = Run::open(7, 2, 4, &[4, 0], &tri, &sheet)?;
+    let mut run = Run::open(on_mesh_4(7), &tri, &sheet)?;
     assert!(rt; run.look_for(1) == Err(Refusal::NotArrived));
     let Some(ticket) = arrive(&mut run) else {
         return Err(Fail::new("no arrival"));
@@ -98,12 +108,19 @@ fn a_foreign_mesh_halts_at_once(rt: HostRuntime) -> Result<(), Fail> {
 fn eight_goods_open_up_to_their_finest_mesh(rt: HostRuntime) -> Result<(), Fail> {
     let sheet = Sheet::new(4, &[1, 1, 1, 2, 2])?;
     let tri = K1;
-    assert!(rt; Run::open(0, 8, 128, &[128, 0, 0, 0, 0, 0, 0, 0], &tri, &sheet).is_ok());
-    assert_eq!(rt;
-        Run::open(0, 8, 129, &[129, 0, 0, 0, 0, 0, 0, 0], &tri, &sheet)
-            .err()
-            .is_some(),
-        true
-    );
+    let finest = Opening {
+        number: 0,
+        goods: 8,
+        mesh: 128,
+        start: &[128, 0, 0, 0, 0, 0, 0, 0],
+    };
+    let finer = Opening {
+        number: 0,
+        goods: 8,
+        mesh: 129,
+        start: &[129, 0, 0, 0, 0, 0, 0, 0],
+    };
+    assert!(rt; Run::open(finest, &tri, &sheet).is_ok());
+    assert_eq!(rt; Run::open(finer, &tri, &sheet).err().is_some(), true);
     Ok(())
 }

@@ -11,7 +11,7 @@ use reaching::reach;
 use std::alloc::Global;
 use std::io;
 use todd::k1::K1;
-use walk::run::{Run, Ticket};
+use walk::run::{Opening, Run, Ticket};
 
 mod reaching;
 
@@ -67,7 +67,13 @@ fn open_run<'a>(tri: &'a K1, market: &'a Market) -> Result<Run<'a, K1, Market>, 
     let mut start = [0u32; 8];
     start[0] = MESH;
     let goods = market.goods();
-    Ok(Run::open(0, goods, MESH, &start[0..goods], tri, market)?)
+    let opening = Opening {
+        number: 0,
+        goods,
+        mesh: MESH,
+        start: &start[0..goods],
+    };
+    Ok(Run::open(opening, tri, market)?)
 }
 
 // Walks on each mesh in turn, as long as the walks arrive.

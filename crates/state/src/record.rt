@@ -9,6 +9,8 @@ mod beginning;
 mod reading;
 mod stepping;
 
+pub use stepping::Entry;
+
 // Where a run stands: walking; arrived, with the place of the dropped corner; halted, with the prices of the named corner and its label.
 #[derive(Clone, Copy)]
 pub enum Stage {

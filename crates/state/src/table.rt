@@ -1,9 +1,9 @@
 // The table of the corners of a cell.
 ghost use Rattle.std.specs.Prelude.{◌≡◌, ℕ, suc, ◌≤◌, take, replicate, slice_set};
-ghost use Rattle.cells.specs.Corners.{skip};
-ghost use Rattle.state.specs.Views.{corners_of, labelling, shifted, came_from};
+ghost use Rattle.state.specs.Views.{corner_of, corners_of, labelling, shifted, came_from};
 
 use crate::corner::Corner;
+use std::array;
 
 // The corners of a cell by their places: one more than there are goods. The records past them never matter.
 #[derive(Clone, Copy)]
@@ -11,24 +11,13 @@ pub struct Table {
     pub records: [Corner; 9],
 }
 
-// The k-th of the places other than one.
-fn skip_place(out: usize, k: usize) -> usize
-    requires { k ≤ 8 }
-    ensures { result ≡ skip out k }
-{
-    if k < out { k } else { k + 1 }
-}
-
 // The old place of the corner at i, where one is dropped and another put in.
 fn came_from(dropped: usize, place: usize, i: usize) -> usize
     requires { i ≤ 8 }
     ensures { result ≡ came_from dropped place i }
 {
-    if place < i {
-        skip_place(dropped, i - 1)
-    } else {
-        skip_place(dropped, i)
-    }
+    let k = if place < i { i - 1 } else { i };
+    if k < dropped { k } else { k + 1 }
 }
 
 impl Table {
@@ -45,14 +34,11 @@ impl Table {
     }
 
     // Puts a corner in.
-    pub(crate) fn put(&mut self, i: usize, levels: &[u32; 8], label: u8)
+    pub(crate) fn put(&mut self, i: usize, corner: Corner)
         requires { i ≤ 8 }
-        ensures { (g : ℕ) → i ≤ g → corners_of g self.new.records ≡ slice_set (corners_of g self.old.records) i (take g levels.now, label) }
+        ensures { (g : ℕ) → i ≤ g → corners_of g self.new.records ≡ slice_set (corners_of g self.old.records) i (corner_of g corner) }
     {
-        self.records[i] = Corner {
-            levels: *levels,
-            label,
-        };
+        self.records[i] = corner;
     }
 
     // One corner gets its label; all others keep theirs.
@@ -64,28 +50,21 @@ impl Table {
     }
 
     // The table with one corner dropped and another put in, which has no label.
-    pub(crate) fn shift(
-        &self,
-        goods: usize,
-        dropped: usize,
-        place: usize,
-        levels: &[u32; 8],
-    ) -> Table
-        requires { (goods ≤ 8) × (place ≤ goods) }
-        ensures { corners_of goods result.records ≡ shifted goods (corners_of goods self.now.records) dropped place (take goods levels.now) }
+    pub(crate) fn shift(&self, dropped: usize, place: usize, levels: &[u32; 8]) -> Table
+        requires { place ≤ 8 }
+        ensures { (g : ℕ) → g ≤ 8 → place ≤ g → corners_of g result.records ≡ shifted g (corners_of g self.now.records) dropped place (take g levels.now) }
     {
         let corner = Corner {
             levels: *levels,
             label: 0,
         };
-        let mut next = [corner; 9];
-        for i in 0..goods + 1 {
+        let records = array::from_fn(|i| {
             if i == place {
-                next[i] = corner;
+                corner
             } else {
-                next[i] = self.records[came_from(dropped, place, i)];
+                self.records[came_from(dropped, place, i)]
             }
-        }
-        Table { records: next }
+        });
+        Table { records }
     }
 }

@@ -5,8 +5,9 @@
 --   calls-more     one more call of a list, the latest first
 --   turn           one turn of the loop over the calls
 --   play-ends      what is played is what the last look and the last answer say
-use Rattle.std.proofs.Common.{◌≡◌, ℕ, ◌+◌, ◌<◌, ◌≤◌, List, [], ◌∷◌, map, reverse, length, get_or, take, sym, ap, ◌∙◌, subst}
+use Rattle.std.proofs.Common.{◌≡◌, ℕ, ◌+◌, ◌<◌, ◌≤◌, List, [], ◌∷◌, Result, map, reverse, length, get_or, take, sym, ap, ◌∙◌, subst}
 use Rattle.std.proofs.lemmas.List.{map_more, reverse-append, take_all}
+use Rattle.mesh.specs.declared.refusal.Refusal.{Refusal}
 use Rattle.labelling.specs.Labels.{Rule}
 use Rattle.cells.specs.Triangulation.{Shape, Mesh, Lawful}
 use Rattle.path.specs.Path.{Opening, Call as PathCall, Answer, began, Path, Leads}
@@ -43,7 +44,7 @@ module _ (T : (g D : ℕ) → Mesh Shape g D) (L : Rule) (o : Opening) where
   pub goods-same : (calls : List PathCall) (a : Answer) (s : State) → InPlay calls a s → s.start.grid.goods ≡ o.goods
   goods-same calls a s now = ap (λ v. v.sight.goods) now.shows
 
-  pub play-ends : (lawful : (g D : ℕ) → 2 ≤ g → 1 ≤ D → Lawful (T g D)) (all : List Call) (i : ℕ) → length all ≤ i → (last : Said) (s : State) (k : Look)
+  pub play-ends : (lawful : (g D : ℕ) → 2 ≤ g → 1 ≤ D → Lawful (T g D)) (all : List Call) (i : ℕ) → length all ≤ i → (last : Result Said Refusal) (s : State) (k : Look)
       → InPlay (reverse (map call_of (take i all))) (said_of o.goods last) s → looked k ≡ sight_of s → Plays T L o (reverse (map call_of all)) (record { last = last; look = k })
   play-ends lawful all i past last s k now sees =
       let calls : List PathCall = reverse (map call_of all) in
@@ -58,7 +59,7 @@ module _ (T : (g D : ℕ) → Mesh Shape g D) (L : Rule) (o : Opening) where
 
 -- One turn of the loop over a list of calls, on a run that borrows what it was opened with.
 pub turn : {A B : Type 0} (meaning : A → (g D : ℕ) → Mesh Shape g D) (rule : B → Rule) (o : Opening) (t t' : A) (l l' : B) → t ≡ t' → l ≡ l'
-    → (all : List Call) (i : ℕ) (d : Call) → i < length all → (last said : Said) (s w : State)
+    → (all : List Call) (i : ℕ) (d : Call) → i < length all → (last said : Result Said Refusal) (s w : State)
     → InPlay (meaning t) (rule l) o (reverse (map call_of (take i all))) (said_of o.goods last) s
     → ((o : Opening) (calls : List PathCall) → Came (meaning t') (rule l') o calls s → Goes (meaning t') (rule l') o calls (call_of (get_or all i d)) (said_of (goods_of s) said) w)
     → InPlay (meaning t) (rule l) o (reverse (map call_of (take (i + 1) all))) (said_of o.goods said) w

@@ -1,8 +1,7 @@
 -- The price point of a real corner.
 --   real-levels    the levels of a real corner fit its mesh
 --   real-point     so just a real corner is made a price point, and its prices are those of the corner
-use Rattle.std.proofs.Common.{◌≡◌, ℕ, suc, ◌≤◌, true, false, ◌&&◌, eqb, leb, List, length, Ok, Err, Result, sym, ap, ◌∙◌, inl, inr, arith, MatchOption}
-use Rattle.std.specs.Result.{result_ok}
+use Rattle.std.proofs.Common.{◌≡◌, ℕ, suc, ◌≤◌, true, false, ◌&&◌, eqb, leb, List, length, Ok, Err, Result, sym, ap, ◌∙◌, inl, inr, arith, MatchResult}
 use Rattle.std.proofs.lemmas.Bool.{and_parts, and_from, le-leb, eqb-true, eq-eqb, ne_eqb}
 use Rattle.mesh.specs.Points.{Priced, point_of, levels_fit, point_at_levels, goods_of, mesh_of, prices_of}
 use Rattle.mesh.specs.Prices.{first, falls, to_prices}
@@ -24,7 +23,7 @@ module _ (g D : ℕ) (u : List ℕ) (corner : Corner g D u) where
   there = record { goods = g; mesh = D; prices = to_prices u }
 
   pub real-point : (2 ≤ g) × (g ≤ 8) → (1 ≤ D) × (D ≤ most g) → (r : Result PricePoint Refusal) → answered point_of r ≡ point_at_levels g D u
-      → MatchOption (result_ok r) (eqb (first u) (suc D) ≡ true) (λ p. (eqb (first u) (suc D) ≡ false) × (goods_of p ≡ g) × (mesh_of p ≡ D) × (prices_of p ≡ to_prices u))
+      → MatchResult r (λ p. (eqb (first u) (suc D) ≡ false) × (goods_of p ≡ g) × (mesh_of p ≡ D) × (prices_of p ≡ to_prices u)) (λ t. eqb (first u) (suc D) ≡ true)
   real-point goods mesh (Ok p) e =
       let a = insist-ok (fit_goods g) 1 _ (point_of p) (sym e) in
       let b = insist-ok (fit_mesh g D) 2 _ (point_of p) a.1 in

@@ -2,7 +2,6 @@
 --   begun             a run that begins on a mesh stands where a path does that begins there
 --   cell-there        it stands in a cell
 --   newest-corner     its newest corner is a corner
---   label_now          the label that its newest corner gets
 --   corner-shown, levels-shown, label-shown, label-now    what its view shows at a place
 --   on-mesh, in_cell, place-there, newest-double          what is known of the cell where a path stands
 use Rattle.std.proofs.Common.{◌≡◌, ℕ, suc, ◌+◌, ◌<◌, ◌≤◌, Bool, true, false, cond, T as Holds, eqb, List, [], sym, refl, ap, ◌∙◌, subst, le_of_suc-le-suc, arith}
@@ -21,13 +20,9 @@ use Rattle.path.proofs.OneMesh.{trail-cell, trail-newest, trail-double}
 use Rattle.path.proofs.OneLeg.{places-but}
 use Rattle.path.proofs.Sound.{Sound, sound, room}
 use Rattle.state.specs.Views.{View, corner_at, levels_at, label_at}
-use Rattle.walk.specs.Records.{fresh}
+use Rattle.walk.specs.Records.{label_now, fresh}
 use Rattle.walk.specs.Showing.{standing}
 use Rattle.state.proofs.Listed.{listed-get_or, listed-ext}
-
--- The label of the newest corner of a view.
-abbrev pub label_now : Rule → View → ℕ
-label_now L v = label v.sight.goods v.sight.mesh L v.start (levels_at v v.newest)
 
 -- Where a test fails, the other value counts.
 cond-else : {A : Type 0} (b : Bool) (x y z : A) → (b ≡ false → y ≡ z) → cond b x y ≡ cond b x z

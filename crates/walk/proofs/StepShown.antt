@@ -16,9 +16,9 @@ use Rattle.path.proofs.Sound.{Sound, sound, room}
 use Rattle.path.proofs.Theorems.{claimed}
 use Rattle.state.specs.Views.{View, view_of, levels_at, walks_at, is_proper, NoCarrier, Carrier, halting}
 use Rattle.state.specs.declared.record.State.{State}
-use Rattle.walk.specs.Records.{crossed}
+use Rattle.walk.specs.Records.{label_now, crossed}
 use Rattle.walk.specs.Showing.{standing, Goes}
-use Rattle.walk.proofs.Standing.{label_now, levels-shown, label-shown, label-now, on-mesh, in_cell, place-there, newest-double}
+use Rattle.walk.proofs.Standing.{levels-shown, label-shown, label-now, on-mesh, in_cell, place-there, newest-double}
 use Rattle.walk.proofs.Tables.{on_halt, on_arrival, on_entry, halted-view, arrived-view, entered-view}
 
 walks_at-is : (stage : Stage) → walks_at stage ≡ true → stage ≡ walking

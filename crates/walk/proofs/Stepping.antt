@@ -7,9 +7,8 @@ use Rattle.cells.specs.Triangulation.{Shape, Mesh, Lawful}
 use Rattle.path.specs.Path.{Opening, Call, step, Answer, named, Path, Leads}
 use Rattle.state.specs.Views.{View, view_of, levels_at, walks_at, is_proper, NoCarrier, Carrier, halting}
 use Rattle.state.specs.declared.record.State.{State}
-use Rattle.walk.specs.Records.{crossed}
+use Rattle.walk.specs.Records.{label_now, crossed}
 use Rattle.walk.specs.Showing.{standing, Goes}
-use Rattle.walk.proofs.Standing.{label_now}
 use Rattle.walk.proofs.StepShown.{step-halts, step-double, step-crosses}
 
 module _ (T : (g D : ℕ) → Mesh Shape g D) (L : Rule) (o : Opening) (lawful : (g D : ℕ) → 2 ≤ g → 1 ≤ D → Lawful (T g D)) (calls : List Call) (p : Path)

@@ -39,11 +39,6 @@ abbrev pub refined : Result (Unit {0}) (Refusal × Ticket) → Answer
 refined (Ok u) = began
 refined (Err e) = refused (told e.0)
 
--- The fact P, where r is a refusal.
-abbrev pub WhenRefused : {A : Type 0} → Result A Refusal → Type 0 → Type 0
-WhenRefused (Ok x) P = Unit {0}
-WhenRefused (Err e) P = P
-
 -- The record of a run on a finer mesh, or a refusal: what is answered, and the record that the run has then, where it had s.
 abbrev pub made_finer : Result State Refusal → Answer
 made_finer (Ok t) = began

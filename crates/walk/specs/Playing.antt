@@ -15,7 +15,7 @@ use Rattle.walk.specs.declared.play.Call.{Call}
 use Rattle.walk.specs.declared.play.Call.TheVariants.{Step, Look, LookFor, Refine}
 use Rattle.walk.specs.declared.play.Played.{Played}
 use Rattle.walk.specs.declared.play.Said.{Said}
-use Rattle.walk.specs.declared.play.Said.TheVariants.{Began, Moved, Arrived, Halted, Seen, Found, Refused}
+use Rattle.walk.specs.declared.play.Said.TheVariants.{Began, Moved, Arrived, Halted, Seen, Found}
 
 abbrev pub call_of : Call → PathCall
 call_of Step = step
@@ -24,14 +24,14 @@ call_of (LookFor j) = look_for j
 call_of (Refine number mesh factor) = refine number mesh factor
 
 -- With g goods.
-abbrev pub said_of : ℕ → Said → Answer
-said_of g Began = began
-said_of g Moved = went
-said_of g (Arrived number mesh) = ticket number mesh
-said_of g (Halted x l) = named (take g x) l
-said_of g (Seen k) = sight (looked k)
-said_of g (Found x) = prices (take g x)
-said_of g (Refused e) = refused (told e)
+abbrev pub said_of : ℕ → Result Said Refusal → Answer
+said_of g (Ok Began) = began
+said_of g (Ok Moved) = went
+said_of g (Ok (Arrived number mesh)) = ticket number mesh
+said_of g (Ok (Halted x l)) = named (take g x) l
+said_of g (Ok (Seen k)) = sight (looked k)
+said_of g (Ok (Found x)) = prices (take g x)
+said_of g (Err e) = refused (told e)
 
 module _ (T : (g D : ℕ) → Mesh Shape g D) (L : Rule) (o : Opening) (calls : List PathCall) where
   -- The calls are given with the latest first.

@@ -1,4 +1,6 @@
 -- What inner functions of the walk do to the record of a run.
+--   mesh_on    the mesh of the triangulation on which a run stands
+--   label_now  the label that its newest corner gets
 --   fresh      a run that begins at a point
 --   crossed    a run that drops a corner
 --   PricesOf   the prices of a corner with a label
@@ -7,11 +9,19 @@ use Rattle.std.specs.Prelude.{◌≡◌, ℕ, suc, ◌*◌, cond, ◌&&◌, List
 use Rattle.mesh.specs.Prices.{to_prices}
 use Rattle.mesh.specs.Range.{most, between}
 use Rattle.mesh.specs.Refusals.{Told, insist}
+use Rattle.labelling.specs.Labels.{Rule}
 use Rattle.cells.specs.Corners.{outer_wall, real_wall, good_wall, outer_label}
 use Rattle.cells.specs.Triangulation.{Shape, Across, wall, moved, Mesh}
+use Rattle.path.specs.Legs.{label}
 use Rattle.path.specs.Lists.{listed}
 use Rattle.path.specs.Path.{Answer, went, ticket, refused, walking, limit}
 use Rattle.state.specs.Views.{View, levels_at, arrived_at, Carrier, arriving, entering}
+
+abbrev pub mesh_on : ((g D : ℕ) → Mesh Shape g D) → (v : View) → Mesh Shape v.sight.goods v.sight.mesh
+mesh_on T v = T v.sight.goods v.sight.mesh
+
+abbrev pub label_now : Rule → View → ℕ
+label_now L v = label v.sight.goods v.sight.mesh L v.start (levels_at v v.newest)
 
 module _ {g D : ℕ} (M : Mesh Shape g D) where
   -- A run with this number begins at the prices x, its total at n: in the start cell, the outer corners with their labels, the point as the newest corner.

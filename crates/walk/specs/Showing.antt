@@ -1,19 +1,25 @@
 -- How the record of a run shows a path.
+--   opening_of  an opening, in the words of the path
 --   standing    what the record says where the run stands as the path does
 --   Came        the record came from an opening and calls
 --   Goes        one more call: its answer, and the record that it leaves
 --   opened      what opening answers
+--   Makes       a call on a run's record: what it answers and leaves, wherever the run came from
 use Rattle.std.specs.Prelude.{◌≡◌, ℕ, List, [], ◌∷◌, Ok, Result}
 use Rattle.mesh.specs.Range.{fit_goods, fit_mesh, prices_add_up}
 use Rattle.mesh.specs.Refusals.{Told, insist}
 use Rattle.labelling.specs.Labels.{Rule}
 use Rattle.cells.specs.Triangulation.{Shape, Mesh}
 use Rattle.path.specs.Claim.{Claim}
-use Rattle.path.specs.Path.{Opening, Call, Answer, walking, began, Path, begins, seen, Leads}
+use Rattle.path.specs.Path.{Opening as PathOpening, Call, Answer, walking, began, Path, begins, seen, Leads}
 use Rattle.state.specs.Views.{View, view_of}
 use Rattle.state.specs.declared.record.State.{State}
+use Rattle.walk.specs.declared.run.Opening.{Opening}
 
-module _ (T : (g D : ℕ) → Mesh Shape g D) (L : Rule) (o : Opening) where
+abbrev pub opening_of : Opening → PathOpening
+opening_of o = record { number = o.number; goods = o.goods; mesh = o.mesh; start = o.start.now }
+
+module _ (T : (g D : ℕ) → Mesh Shape g D) (L : Rule) (o : PathOpening) where
   -- Its number, its start, its cell, its newest corner, and all that a look shows.
   abbrev pub standing : Path → View
   standing p = record { number = o.number; start = p.leg.start; cell = p.leg.cell; newest = p.leg.newest; sight = seen T L o p }
@@ -41,3 +47,7 @@ module _ (T : (g D : ℕ) → Mesh Shape g D) (L : Rule) (o : Opening) where
   opened =
       insist (fit_goods o.goods) 1 (insist (fit_mesh o.goods o.mesh) 2 (insist (prices_add_up o.goods o.mesh o.start) 3
       (insist ((T o.goods o.mesh).admitted o.start) 4 (Ok (standing opening)))))
+
+-- Whatever opening and calls the record s came from: one more call was made on it, which answered a and left the record t.
+abbrev pub Makes : ((g D : ℕ) → Mesh Shape g D) → Rule → State → Call → Answer → State → Type 0
+Makes T L s call a t = (o : PathOpening) (calls : List Call) → Came T L o calls s → Goes T L o calls call a t

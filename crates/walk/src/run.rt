@@ -6,8 +6,8 @@ use labelling::Labelling;
 use state::corner::Corner;
 use state::record::{Stage, State};
 
+mod beginning;
 mod looking;
-mod opening;
 mod refining;
 mod stepping;
 
@@ -17,6 +17,15 @@ pub struct Run<'a, T: Triangulation, L: Labelling> {
     tri: &'a T,
     labels: &'a L,
     state: State,
+}
+
+// How a run is opened: its number, the goods, the mesh, and the prices of the start point.
+#[derive(Clone, Copy)]
+pub struct Opening<'s> {
+    pub number: u16,
+    pub goods: usize,
+    pub mesh: u32,
+    pub start: &'s [u32],
 }
 
 // What an arrival answers, and refining takes: the number of the run and the mesh. It can be neither copied nor made by others.

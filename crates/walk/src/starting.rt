@@ -1,7 +1,6 @@
 // Where a run begins, and the labels of corners.
-ghost use Rattle.std.specs.Prelude.{◌≡◌, suc, ◌<◌, true, false, Ok, MatchOption, ◌==◌};
+ghost use Rattle.std.specs.Prelude.{◌≡◌, suc, ◌<◌, true, Ok};
 ghost use Rattle.mesh.specs.Points.{goods_of, mesh_of, prices_of};
-ghost use Rattle.mesh.specs.Prices.{first, to_prices};
 ghost use Rattle.mesh.specs.Refusals.{answered, insist};
 ghost use Rattle.cells.specs.Cells.{shape_of};
 ghost use Rattle.cells.specs.Corners.{Corner};
@@ -13,17 +12,9 @@ use cells::Triangulation;
 use cells::cell::Cell;
 use cells::outer::outer_label;
 use labelling::Labelling;
-use mesh::grid::Grid;
 use mesh::point::PricePoint;
 use mesh::refusal::Refusal;
 use state::record::State;
-
-// How many corners a cell has.
-fn corner_count(grid: Grid) -> usize
-    ensures { result ≡ suc grid.goods }
-{
-    grid.goods() + 1
-}
 
 // The record of a run that begins at a point, after so many cells on other meshes, in a cell whose corners it places.
 fn stand_in<T: Triangulation>(
@@ -37,7 +28,7 @@ fn stand_in<T: Triangulation>(
 {
     let grid = point.grid();
     let mut state = State::begin(number, before, point, *cell);
-    for i in 0..corner_count(grid) {
+    for i in 0..grid.goods() + 1 {
         let levels = tri.corner(grid, cell, i)?;
         state.place(i, &levels);
     }
@@ -57,19 +48,12 @@ pub(crate) fn stand<T: Triangulation>(
     stand_in(tri, number, before, point, &cell)
 }
 
-// The price point of a real corner. An outer one has none.
-fn real_point(start: &PricePoint, levels: &[u32]) -> Option<PricePoint>
-    ensures { Corner (goods_of start.now) (mesh_of start.now) levels.now → MatchOption result ((first levels.now == suc (mesh_of start.now)) ≡ true) (λ p. ((first levels.now == suc (mesh_of start.now)) ≡ false) × (goods_of p ≡ goods_of start.now) × (mesh_of p ≡ mesh_of start.now) × (prices_of p ≡ to_prices levels.now)) }
-{
-    PricePoint::at_levels(start.goods(), start.mesh(), levels).ok()
-}
-
 // The label of a corner for a start point: its outer label, or the labelling's where it is real.
 pub(crate) fn label_of<L: Labelling>(labels: &L, start: &PricePoint, levels: &[u32]) -> u8
     ensures { Corner (goods_of start.now) (mesh_of start.now) levels.now → result ≡ label (goods_of start.now) (mesh_of start.now) (L.rule labels.now) (prices_of start.now) levels.now }
 {
-    match real_point(start, levels) {
-        Some(point) => labels.label(&point),
-        None => outer_label(start, levels),
+    match PricePoint::at_levels(start.goods(), start.mesh(), levels) {
+        Ok(point) => labels.label(&point),
+        Err(_) => outer_label(start, levels),
     }
 }

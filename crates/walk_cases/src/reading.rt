@@ -6,14 +6,26 @@ use market::reader::read;
 use mesh::refusal::Refusal;
 use std::alloc::{AllocError, Global};
 use walk::play::Call;
+use walk::run::Opening;
 
-// What a run is opened with.
+// How a run is opened, as a case says it.
 #[derive(Drop)]
-pub struct Opening {
-    pub number: u16,
-    pub goods: usize,
-    pub mesh: u32,
-    pub start: Vec<u32>,
+pub struct ParsedOpening {
+    number: u16,
+    goods: usize,
+    mesh: u32,
+    start: Vec<u32>,
+}
+
+impl ParsedOpening {
+    pub fn opening(&self) -> Opening<'_> {
+        Opening {
+            number: self.number,
+            goods: self.goods,
+            mesh: self.mesh,
+            start: self.start.as_slice(),
+        }
+    }
 }
 
 // A market: the bytes of its file.
@@ -30,7 +42,7 @@ pub fn read_sheet(digits: &str) -> Result<Sheet, Refusal> {
 }
 
 // Run number, goods, mesh, and the start prices.
-pub fn read_opening(heap: Global, text: &str) -> Result<Opening, AllocError> {
+pub fn read_opening(heap: Global, text: &str) -> Result<ParsedOpening, AllocError> {
     let mut words = text.split_whitespace();
     let number = words.next().unwrap_or("").parse::<u16>().unwrap_or(0);
     let goods = words.next().unwrap_or("").parse::<usize>().unwrap_or(0);
@@ -39,7 +51,7 @@ pub fn read_opening(heap: Global, text: &str) -> Result<Opening, AllocError> {
     for word in words {
         start.push(word.parse::<u32>().unwrap_or(0))?;
     }
-    Ok(Opening {
+    Ok(ParsedOpening {
         number,
         goods,
         mesh,

@@ -5,6 +5,7 @@ ghost use Rattle.cells.specs.Cells.{shape_of};
 ghost use Rattle.state.specs.Views.{view_of, goods_of, bare, placing};
 
 use super::{Stage, State};
+use crate::corner::Corner;
 use crate::table::Table;
 use cells::cell::Cell;
 use cells::outer::outer_label;
@@ -37,13 +38,16 @@ impl State {
         if i > goods {
             return;
         }
+        let mut corner = Corner {
+            levels: *levels,
+            label: 0,
+        };
         if self.is_real(levels) {
             self.newest = i;
-            self.corners.put(i, levels, 0);
         } else {
-            let label = outer_label(&self.start, &levels[0..goods]);
-            self.corners.put(i, levels, label);
+            corner.label = outer_label(&self.start, &levels[0..goods]);
         }
+        self.corners.put(i, corner);
     }
 
     // The levels of a corner begin with the mesh.

@@ -9,19 +9,17 @@ impl State {
     pub fn walks(&self) -> bool
         ensures { result ≡ walks_at (stage_of (goods_of self.now) self.now.stage) }
     {
-        match self.stage {
-            Stage::Walking => true,
-            _ => false,
-        }
+        matches!(self.stage, Stage::Walking)
     }
 
     // The place of the dropped corner, where the run has arrived.
     pub fn arrived(&self) -> Option<usize>
         ensures { result ≡ arrived_at (stage_of (goods_of self.now) self.now.stage) }
     {
-        match self.stage {
-            Stage::Arrived(dropped) => Some(dropped),
-            _ => None,
+        if let Stage::Arrived(dropped) = self.stage {
+            Some(dropped)
+        } else {
+            None
         }
     }
 
@@ -55,27 +53,6 @@ impl State {
     pub fn carrier(&self, label: u8, except: usize) -> Option<usize>
         ensures { MatchOption result (NoCarrier (view_of self.now) label except) (λ i. Carrier (view_of self.now) label except i) }
     {
-        for i in 0..self.start.goods() + 1 {
-            if self.carries(i, label, except) {
-                return Some(i);
-            }
-        }
-        None
-    }
-
-    // The corner at a place carries the label, and the place is not the one that is left out.
-    fn carries(&self, i: usize, label: u8, except: usize) -> bool
-        requires { i ≤ goods_of self.now }
-        ensures { result ≡ (not (i == except) && label_at (view_of self.now) i == label) }
-    {
-        i != except && self.label_at(i) == label
-    }
-
-    // The label of the corner at a place.
-    fn label_at(&self, i: usize) -> u8
-        requires { i ≤ goods_of self.now }
-        ensures { result ≡ label_at (view_of self.now) i }
-    {
-        self.corners.records[i].label
+        (0..self.start.goods() + 1).find(|&i| i != except && self.corners.records[i].label == label)
     }
 }

@@ -1,6 +1,7 @@
 // What a step does to the record of a run.
-ghost use Rattle.std.specs.Prelude.{◌≡◌, true, false, ◌&&◌, take, nat_le, nat_lt};
+ghost use Rattle.std.specs.Prelude.{◌≡◌, ◌&&◌, Ok, OnOk, OnErr, take, nat_le, nat_lt};
 ghost use Rattle.mesh.specs.Prices.{to_prices};
+ghost use Rattle.mesh.specs.Refusals.{answered, insist};
 ghost use Rattle.cells.specs.Cells.{shape_of};
 ghost use Rattle.path.specs.Path.{limit};
 ghost use Rattle.state.specs.Views.{view_of, goods_of, levels_at, halting, arriving, entering};
@@ -8,30 +9,27 @@ ghost use Rattle.state.specs.Views.{view_of, goods_of, levels_at, halting, arriv
 use super::{Stage, State};
 use crate::corner::prices_of;
 use cells::cell::Cell;
+use mesh::refusal::Refusal;
 
 // The total from which on no cell is entered.
-fn is_full(total: u64) -> bool
-    ensures { result ≡ nat_le limit total }
-{
-    total >= 4_611_686_018_427_387_904
+const LIMIT: u64 = 1 << 62;
+
+// A cell that is entered, with the place of its new corner and that corner's levels.
+#[derive(Clone, Copy)]
+pub struct Entry {
+    pub cell: Cell,
+    pub place: usize,
+    pub levels: [u32; 8],
 }
 
 impl State {
-    // The prices of the newest corner.
-    fn newest_prices(&self) -> [u32; 8]
-        ensures { take (goods_of self.now) result ≡ to_prices (levels_at (view_of self.now) self.now.newest) }
-    {
-        let goods = self.start.goods();
-        let levels = self.levels_at(self.newest);
-        prices_of(&levels[0..goods])
-    }
-
     // The newest corner gets an improper label, and the run halts there. Answers the prices of that corner.
     pub fn halt(&mut self, label: u8) -> [u32; 8]
         ensures view { view_of self.new ≡ halting (view_of self.old) label }
         ensures prices { take (goods_of self.old) result ≡ to_prices (levels_at (view_of self.old) self.old.newest) }
     {
-        let prices = self.newest_prices();
+        let levels = self.newest_levels();
+        let prices = prices_of(&levels[0..self.start.goods()]);
         self.corners.set_label(self.newest, label);
         self.stage = Stage::Halted(prices, label);
         prices
@@ -45,33 +43,22 @@ impl State {
         self.stage = Stage::Arrived(dropped);
     }
 
-    // The newest corner gets its label, and the run stands in the cell across the dropped corner, whose new corner is the newest. Where the total
-    // has come to its limit, or there is no such place, it answers false and alters nothing.
-    pub fn enter(
-        &mut self,
-        cell: &Cell,
-        dropped: usize,
-        place: usize,
-        levels: &[u32; 8],
-        label: u8,
-    ) -> bool
-        ensures told { result ≡ (nat_lt self.old.total limit && nat_le place (goods_of self.old)) }
-        ensures entered { result ≡ true → view_of self.new ≡ entering (view_of self.old) (shape_of (goods_of self.old) cell.now) dropped place (take (goods_of self.old) levels.now) label }
-        ensures kept { result ≡ false → self.new ≡ self.old }
+    // The newest corner gets its label, and the run stands in the cell across the dropped corner, whose new corner is the newest. Refuses where the
+    // total has come to its limit, or there is no such place, and then alters nothing.
+    pub fn enter(&mut self, dropped: usize, label: u8, entry: &Entry) -> Result<(), Refusal>
+        ensures answer { answered (λ u. u) result ≡ insist (nat_lt self.old.total limit && nat_le entry.now.place (goods_of self.old)) 10 (Ok tt) }
+        ensures entered { OnOk result (view_of self.new ≡ entering (view_of self.old) (shape_of (goods_of self.old) entry.now.cell) dropped entry.now.place (take (goods_of self.old) entry.now.levels) label) }
+        ensures kept { OnErr result (self.new ≡ self.old) }
     {
-        let goods = self.start.goods();
-        if is_full(self.total) {
-            return false;
-        }
-        if place > goods {
-            return false;
+        if self.total >= LIMIT || entry.place > self.start.goods() {
+            return Err(Refusal::WayBlocked);
         }
         self.corners.set_label(self.newest, label);
-        self.corners = self.corners.shift(goods, dropped, place, levels);
-        self.cell = *cell;
-        self.newest = place;
+        self.corners = self.corners.shift(dropped, entry.place, &entry.levels);
+        self.cell = entry.cell;
+        self.newest = entry.place;
         self.count += 1;
         self.total += 1;
-        true
+        Ok(())
     }
 }

@@ -1,11 +1,11 @@
 // Refining.
-ghost use Rattle.std.specs.Prelude.{◌≡◌, ◌*◌, List};
+ghost use Rattle.std.specs.Prelude.{◌≡◌, ◌*◌};
 ghost use Rattle.mesh.specs.Refusals.{answered};
-ghost use Rattle.path.specs.Path.{Opening, Call, refine};
+ghost use Rattle.path.specs.Path.{refine};
 ghost use Rattle.state.specs.Views.{view_of, goods_of};
 ghost use Rattle.walk.specs.Answers.{refined, made_finer, after, HandedBack};
 ghost use Rattle.walk.specs.Records.{accepting, finer_mesh};
-ghost use Rattle.walk.specs.Showing.{Came, Goes};
+ghost use Rattle.walk.specs.Showing.{Makes};
 
 use super::{Run, Ticket};
 use crate::starting::stand;
@@ -21,21 +21,21 @@ use state::record::State;
 fn finer_mesh(goods: usize, mesh: u32, factor: u32) -> Result<u32, Refusal>
     ensures { answered (λ m. m) result ≡ finer_mesh goods mesh factor }
 {
-    if factor < 2 || factor > 64 {
+    if !(2..=64).contains(&factor) {
         return Err(Refusal::FactorOutOfRange);
     }
-    let finer = u64::from(factor) * u64::from(mesh);
-    if finer > u64::from(finest(goods)) {
+    let finer = factor.saturating_mul(mesh);
+    if finer > finest(goods) {
         return Err(Refusal::FinerThanFinest);
     }
-    Ok(finer as u32)
+    Ok(finer)
 }
 
 impl<'a, T: Triangulation, L: Labelling> Run<'a, T, L> {
     // Begins again on a mesh finer by a factor, from the arrived corner with label 1. Takes the ticket of the arrival, and hands it back where it refuses: a
     // run that has not arrived or another's ticket, then a factor outside 2 to 64, then a mesh above the finest, then a start that is not admitted.
     pub fn refine(&mut self, ticket: Ticket, factor: u32) -> Result<(), (Refusal, Ticket)>
-        ensures goes { (o : Opening) (calls : List Call) → Came (T.meaning self.old.tri.now) (L.rule self.old.labels.now) o calls self.old.state → Goes (T.meaning self.old.tri.now) (L.rule self.old.labels.now) o calls (refine ticket.number ticket.mesh factor) (refined result) self.new.state }
+        ensures goes { Makes (T.meaning self.old.tri.now) (L.rule self.old.labels.now) self.old.state (refine ticket.number ticket.mesh factor) (refined result) self.new.state }
         ensures back { HandedBack ticket self.old.state result self.new.state }
         ensures borrows { (self.new.tri.now ≡ self.old.tri.now) × (self.new.labels.now ≡ self.old.labels.now) }
     {
@@ -50,14 +50,12 @@ impl<'a, T: Triangulation, L: Labelling> Run<'a, T, L> {
 
     // The record of the run as it begins on the finer mesh.
     fn finer(&self, ticket: &Ticket, factor: u32) -> Result<State, Refusal>
-        ensures { (o : Opening) (calls : List Call) → Came (T.meaning self.now.tri.now) (L.rule self.now.labels.now) o calls self.now.state → Goes (T.meaning self.now.tri.now) (L.rule self.now.labels.now) o calls (refine ticket.now.number ticket.now.mesh factor) (made_finer result) (after self.now.state result) }
+        ensures { Makes (T.meaning self.now.tri.now) (L.rule self.now.labels.now) self.now.state (refine ticket.now.number ticket.now.mesh factor) (made_finer result) (after self.now.state result) }
     {
         let dropped = self.accept(ticket)?;
         let goods = self.state.start.goods();
         let mesh = finer_mesh(goods, self.state.start.mesh(), factor)?;
-        let Some(prices) = self.kept(1, dropped) else {
-            return Err(Refusal::WayBlocked);
-        };
+        let prices = self.kept(1, dropped)?;
         let start = scaled(&prices, factor);
         let point = PricePoint::new(goods, mesh, &start[0..goods])?;
         stand(self.tri, self.state.number, self.state.total, point)
@@ -67,9 +65,7 @@ impl<'a, T: Triangulation, L: Labelling> Run<'a, T, L> {
     fn accept(&self, ticket: &Ticket) -> Result<usize, Refusal>
         ensures { answered (λ d. d) result ≡ accepting (view_of self.now.state) ticket.now.number ticket.now.mesh }
     {
-        let Some(dropped) = self.state.arrived() else {
-            return Err(Refusal::TicketNotAccepted);
-        };
+        let dropped = self.state.arrived().ok_or(Refusal::TicketNotAccepted)?;
         if ticket.number != self.state.number || ticket.mesh != self.state.start.mesh() {
             return Err(Refusal::TicketNotAccepted);
         }

@@ -25,11 +25,11 @@ returns-in_err-mesh b c = λ o calls came.
     (refine-no-mesh _ _ o (b.met.T.Triangulation.lawful c.args.self.now.tri.now) calls came.path came.leads _ _ c.args.factor (view_of s) came.shows c.in_ok-dropped.dropped
     (sym c.in_ok-dropped.ensures) _ (same ∙ sym c.in_err-mesh.ensures) s refl)
 
-pub returns-in_default : goal.returns-in_default
-returns-in_default b c = λ o calls came.
+pub returns-in_err-prices : goal.returns-in_err-prices
+returns-in_err-prices b c = λ o calls came.
     let s = c.args.self.now.state in
     absurd (refine-none _ _ o (b.met.T.Triangulation.lawful c.args.self.now.tri.now) calls came.path came.leads _ _ c.args.factor (view_of s) came.shows c.in_ok-dropped.dropped
-    (sym c.in_ok-dropped.ensures) c.in_default.ensures)
+    (sym c.in_ok-dropped.ensures) c.in_err-prices.ensures)
 
 pub returns-in_err-point : goal.returns-in_err-point
 returns-in_err-point b c = λ o calls came.
@@ -39,9 +39,9 @@ returns-in_err-point b c = λ o calls came.
     = ap (λ g. finer_mesh g s.start.grid.mesh c.args.factor) (sym c.goods-goods.ensures) ∙ ap (λ D. finer_mesh c.goods-goods.result D c.args.factor) (sym c.mesh.ensures) in
     let finer = same ∙ sym c.in_ok-mesh.ensures in
     let start = scaled-start _ _ o law calls came.path came.leads _ _ c.args.factor (view_of s) came.shows c.in_ok-dropped.dropped (sym c.in_ok-dropped.ensures)
-    c.in_ok-mesh.mesh finer c.in-Some.prices c.in-Some.ensures c.scaled-start.result c.goods-goods.result c.goods-goods.ensures s.start.grid.goods_fit.1 c.scaled-start.ensures in
+    c.in_ok-mesh.mesh finer c.in_ok-prices.prices c.in_ok-prices.ensures c.scaled-start.result c.goods-goods.result c.goods-goods.ensures s.start.grid.goods_fit.1 c.scaled-start.ensures in
     absurd (no-refusal _ _ o law calls came.path came.leads _ _ c.args.factor (view_of s) came.shows c.in_ok-dropped.dropped (sym c.in_ok-dropped.ensures)
-    c.in_ok-mesh.mesh finer c.in-Some.prices c.in-Some.ensures _ start _
+    c.in_ok-mesh.mesh finer c.in_ok-prices.prices c.in_ok-prices.ensures _ start _
     (c.in_err-point.ensures ∙ ap (λ g. point_for g c.in_ok-mesh.mesh (take (c.goods-goods.result - 0) c.scaled-start.result)) c.goods-goods.ensures))
 
 pub returns : goal.returns
@@ -52,7 +52,7 @@ returns b c = λ o calls came.
     = ap (λ g. finer_mesh g s.start.grid.mesh c.args.factor) (sym c.goods-goods.ensures) ∙ ap (λ D. finer_mesh c.goods-goods.result D c.args.factor) (sym c.mesh.ensures) in
     let finer = same ∙ sym c.in_ok-mesh.ensures in
     let start = scaled-start _ _ o law calls came.path came.leads _ _ c.args.factor (view_of s) came.shows c.in_ok-dropped.dropped (sym c.in_ok-dropped.ensures)
-    c.in_ok-mesh.mesh finer c.in-Some.prices c.in-Some.ensures c.scaled-start.result c.goods-goods.result c.goods-goods.ensures s.start.grid.goods_fit.1 c.scaled-start.ensures in
+    c.in_ok-mesh.mesh finer c.in_ok-prices.prices c.in_ok-prices.ensures c.scaled-start.result c.goods-goods.result c.goods-goods.ensures s.start.grid.goods_fit.1 c.scaled-start.ensures in
     begins-there _ _ o law calls came.path came.leads _ _ c.args.factor (view_of s) came.shows c.in_ok-dropped.dropped (sym c.in_ok-dropped.ensures)
-    c.in_ok-mesh.mesh finer c.in-Some.prices c.in-Some.ensures _ start (point_of c.in_ok-point.point)
+    c.in_ok-mesh.mesh finer c.in_ok-prices.prices c.in_ok-prices.ensures _ start (point_of c.in_ok-point.point)
     (c.in_ok-point.ensures ∙ ap (λ g. point_for g c.in_ok-mesh.mesh (take (c.goods-goods.result - 0) c.scaled-start.result)) c.goods-goods.ensures) s refl c.stand.result c.stand.ensures

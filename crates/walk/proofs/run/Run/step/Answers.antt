@@ -1,4 +1,5 @@
-use Rattle.std.proofs.Common.{sym, refl, ◌∙◌}
+use Rattle.std.proofs.Common.{◌≡◌, Some, None, sym, refl, ◌∙◌, arith}
+use Rattle.std.proofs.lemmas.Option.{MatchOption-at_none, MatchOption-at_some}
 use Rattle.state.specs.Views.{view_of}
 use Rattle.walk.proofs.Standing.{cell-there, newest-corner}
 use Rattle.walk.proofs.StepShown.{step-idle}
@@ -27,29 +28,22 @@ returns-then-not-is_proper b c =
       borrows = (refl, refl);
     }
 
-pub returns-in-Some : goal.returns-in-Some
-returns-in-Some b c =
+pub returns-in_err-dropped-clause-goes : goal.returns-in_err-dropped-clause-goes
+returns-in_err-dropped-clause-goes b c = λ o calls came.
     let v = view_of c.args.self.now.state in
-    record {
-      goes = λ o calls came.
-          let law = b.met.T.Triangulation.lawful c.args.self.now.tri.now in
-          crosses-by _ _ o law calls came.path came.leads v came.shows (sym c.walks.ensures ∙ c.if-not-walks.false) c.newest_label-label.result
-          (c.newest_label-label.ensures (newest-corner _ _ o law calls came.path came.leads v came.shows))
-          (sym c.is_proper.ensures ∙ c.if-not-is_proper.false) c.in-Some.dropped c.in-Some.ensures _ c.cross.new.self.state
-          (c.cross.ensures.crossed c.in-Some.ensures.0 (cell-there _ _ o law calls came.path came.leads v came.shows));
-      kept = c.cross.ensures.kept;
-      borrows = c.cross.ensures.borrows;
-    }
+    let law = b.met.T.Triangulation.lawful c.args.self.now.tri.now in
+    let none : c.carrier-carrier.result ≡ None = grind arith in
+    absurd (none-by _ _ o law calls came.path came.leads v came.shows (sym c.walks.ensures ∙ c.if-not-walks.false) c.newest_label-label.result
+    (c.newest_label-label.ensures (newest-corner _ _ o law calls came.path came.leads v came.shows))
+    (sym c.is_proper.ensures ∙ c.if-not-is_proper.false) (MatchOption-at_none _ _ none c.carrier-carrier.ensures))
 
-pub returns-in-None : goal.returns-in-None
-returns-in-None b c =
+pub returns-clause-goes : goal.returns-clause-goes
+returns-clause-goes b c = λ o calls came.
     let v = view_of c.args.self.now.state in
-    record {
-      goes = λ o calls came.
-          let law = b.met.T.Triangulation.lawful c.args.self.now.tri.now in
-          absurd (none-by _ _ o law calls came.path came.leads v came.shows (sym c.walks.ensures ∙ c.if-not-walks.false) c.newest_label-label.result
-          (c.newest_label-label.ensures (newest-corner _ _ o law calls came.path came.leads v came.shows))
-          (sym c.is_proper.ensures ∙ c.if-not-is_proper.false) c.in-None.ensures);
-      kept = refl;
-      borrows = (refl, refl);
-    }
+    let law = b.met.T.Triangulation.lawful c.args.self.now.tri.now in
+    let some : c.carrier-carrier.result ≡ Some c.in_ok-dropped.dropped = grind arith in
+    let carrier = MatchOption-at_some _ _ _ some c.carrier-carrier.ensures in
+    crosses-by _ _ o law calls came.path came.leads v came.shows (sym c.walks.ensures ∙ c.if-not-walks.false) c.newest_label-label.result
+    (c.newest_label-label.ensures (newest-corner _ _ o law calls came.path came.leads v came.shows))
+    (sym c.is_proper.ensures ∙ c.if-not-is_proper.false) c.in_ok-dropped.dropped carrier _ c.cross.new.state
+    (c.cross.ensures.crossed carrier.0 (cell-there _ _ o law calls came.path came.leads v came.shows))
