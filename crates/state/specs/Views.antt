@@ -70,10 +70,10 @@ abbrev pub label_at : View → ℕ → ℕ
 label_at v i = (corner_at v.sight.corners i).1
 
 -- The stage is walking; the place that was dropped, where it is that of an arrival.
-abbrev pub walks_at-is : PathStage → Bool
-walks_at-is walking = true
-walks_at-is (arrived d) = false
-walks_at-is (halted x l) = false
+abbrev pub walks_at : PathStage → Bool
+walks_at walking = true
+walks_at (arrived d) = false
+walks_at (halted x l) = false
 
 abbrev pub arrived_at : PathStage → Option ℕ
 arrived_at walking = None

@@ -14,14 +14,14 @@ use Rattle.path.specs.Path.{Opening, Call, step, Stage, walking, arrived, halted
 use Rattle.path.proofs.OneLeg.{real-wall}
 use Rattle.path.proofs.Sound.{Sound, sound, room}
 use Rattle.path.proofs.Theorems.{claimed}
-use Rattle.state.specs.Views.{View, view_of, levels_at, walks_at-is, is_proper, NoCarrier, Carrier, halting}
+use Rattle.state.specs.Views.{View, view_of, levels_at, walks_at, is_proper, NoCarrier, Carrier, halting}
 use Rattle.state.specs.declared.record.State.{State}
 use Rattle.walk.specs.Records.{crossed}
 use Rattle.walk.specs.Showing.{standing, Goes}
 use Rattle.walk.proofs.Standing.{label_now, levels-shown, label-shown, label-now, on-mesh, in_cell, place-there, newest-double}
 use Rattle.walk.proofs.Tables.{on_halt, on_arrival, on_entry, halted-view, arrived-view, entered-view}
 
-walks_at-is : (stage : Stage) → walks_at-is stage ≡ true → stage ≡ walking
+walks_at-is : (stage : Stage) → walks_at stage ≡ true → stage ≡ walking
 walks_at-is walking h = refl
 walks_at-is (arrived d) h = absurd (false≢true h)
 walks_at-is (halted x l) h = absurd (false≢true h)
@@ -58,8 +58,8 @@ module _ (T : (g D : ℕ) → Mesh Shape g D) (L : Rule) (o : Opening) (lawful :
   goes : (r : Path) → Steps T L o p r → (s : State) → view_of s ≡ standing T L o r → Goes T L o calls step r.said s
   goes r steps s shows = record { path = r; leads = (p, leads, steps); says = refl; shows = shows; claim = claimed T L o lawful (step ∷ calls) r (p, leads, steps) }
 
-  pub step-idle : (v : View) → v ≡ standing T L o p → walks_at-is v.sight.stage ≡ false → (s : State) → view_of s ≡ v → Goes T L o calls step (refused (8, [])) s
-  step-idle v e = rw e (λ idle s shows. goes (refuses p 8) (not_walking (λ walks. both_ways (walks_at-is p.stage) idle (ap walks_at-is walks)) refl) s shows)
+  pub step-idle : (v : View) → v ≡ standing T L o p → walks_at v.sight.stage ≡ false → (s : State) → view_of s ≡ v → Goes T L o calls step (refused (8, [])) s
+  step-idle v e = rw e (λ idle s shows. goes (refuses p 8) (not_walking (λ walks. both_ways (walks_at p.stage) idle (ap walks_at walks)) refl) s shows)
 
   -- At the levels u of the newest corner.
   halts_at : (u : List ℕ) → u ≡ corner_on T L o p.leg p.leg.newest → p.stage ≡ walking
@@ -72,7 +72,7 @@ module _ (T : (g D : ℕ) → Mesh Shape g D) (L : Rule) (o : Opening) (lawful :
       let improper = proper-false o.goods (corner_on T L o p.leg p.leg.newest) (label_on T L o p.leg p.leg.newest) not-proper in
       goes (on_halt T L o p) (halts (record { walks = walks; improper = improper; then = refl })) s (shows ∙ halted-view T L o p newest-there))
 
-  pub step-halts : (v : View) → v ≡ standing T L o p → walks_at-is v.sight.stage ≡ true
+  pub step-halts : (v : View) → v ≡ standing T L o p → walks_at v.sight.stage ≡ true
       → is_proper v.sight.goods (levels_at v v.newest) (label_now L v) ≡ false
       → (s : State) → view_of s ≡ halting v (label_now L v) → Goes T L o calls step (named (to_prices (levels_at v v.newest)) (label_now L v)) s
   step-halts v e = rw e (λ walks. halts_at _ (levels-shown T L o p p.leg.newest newest-there) (walks_at-is p.stage walks))
@@ -83,7 +83,7 @@ module _ (T : (g D : ℕ) → Mesh Shape g D) (L : Rule) (o : Opening) (lawful :
       subst (λ u. Proper o.goods (to_prices u) (label o.goods p.leg.mesh L p.leg.start u)) (levels-shown T L o p p.leg.newest newest-there)
       (proper-true o.goods (levels_at (standing T L o p) p.leg.newest) (label_now L (standing T L o p)) h)
 
-  pub step-double : (v : View) → v ≡ standing T L o p → walks_at-is v.sight.stage ≡ true
+  pub step-double : (v : View) → v ≡ standing T L o p → walks_at v.sight.stage ≡ true
       → is_proper v.sight.goods (levels_at v v.newest) (label_now L v) ≡ true → NoCarrier v (label_now L v) v.newest → ⊥
   step-double v e =
       rw e
@@ -122,7 +122,7 @@ module _ (T : (g D : ℕ) → Mesh Shape g D) (L : Rule) (o : Opening) (lawful :
       (goes (on_entry T L o p b k) (moves (record { walks = walks; dropped = d; drops = drops; next = b; place = k; moves = way; room = free; then = refl })) s
       (ap (λ z. z.1) enters ∙ entered-view T L o p newest-there walks d b k next))
 
-  pub step-crosses : (v : View) → v ≡ standing T L o p → walks_at-is v.sight.stage ≡ true
+  pub step-crosses : (v : View) → v ≡ standing T L o p → walks_at v.sight.stage ≡ true
       → is_proper v.sight.goods (levels_at v v.newest) (label_now L v) ≡ true → (d : ℕ) → Carrier v (label_now L v) v.newest d
       → (a : Answer) (s : State)
       → (a, view_of s) ≡ crossed (T v.sight.goods v.sight.mesh) v d (label_now L v) ((T v.sight.goods v.sight.mesh).across v.cell d)

@@ -5,7 +5,7 @@ use Rattle.mesh.specs.Prices.{to_prices}
 use Rattle.labelling.specs.Labels.{Rule}
 use Rattle.cells.specs.Triangulation.{Shape, Mesh, Lawful}
 use Rattle.path.specs.Path.{Opening, Call, step, Answer, named, Path, Leads}
-use Rattle.state.specs.Views.{View, view_of, levels_at, walks_at-is, is_proper, NoCarrier, Carrier, halting}
+use Rattle.state.specs.Views.{View, view_of, levels_at, walks_at, is_proper, NoCarrier, Carrier, halting}
 use Rattle.state.specs.declared.record.State.{State}
 use Rattle.walk.specs.Records.{crossed}
 use Rattle.walk.specs.Showing.{standing, Goes}
@@ -13,7 +13,7 @@ use Rattle.walk.proofs.Standing.{label_now}
 use Rattle.walk.proofs.StepShown.{step-halts, step-double, step-crosses}
 
 module _ (T : (g D : ℕ) → Mesh Shape g D) (L : Rule) (o : Opening) (lawful : (g D : ℕ) → 2 ≤ g → 1 ≤ D → Lawful (T g D)) (calls : List Call) (p : Path)
-    (leads : Leads T L o calls p) (v : View) (stands : v ≡ standing T L o p) (walks : walks_at-is v.sight.stage ≡ true) (n : ℕ) (is : n ≡ label_now L v) where
+    (leads : Leads T L o calls p) (v : View) (stands : v ≡ standing T L o p) (walks : walks_at v.sight.stage ≡ true) (n : ℕ) (is : n ≡ label_now L v) where
   pub halts_by : is_proper v.sight.goods (levels_at v v.newest) n ≡ false → (x : List ℕ) → x ≡ to_prices (levels_at v v.newest)
       → (s : State) → view_of s ≡ halting v n → Goes T L o calls step (named x n) s
   halts_by improper x prices s shows =

@@ -1,13 +1,13 @@
 // Reading the record of a run.
 ghost use Rattle.std.specs.Prelude.{◌≡◌, ◌<◌, ◌≤◌, not, ◌&&◌, take, replicate, MatchOption, ◌==◌};
-ghost use Rattle.state.specs.Views.{view_of, goods_of, stage_of, walks_at-is, arrived_at, levels_at, label_at, is_proper, NoCarrier, Carrier};
+ghost use Rattle.state.specs.Views.{view_of, goods_of, stage_of, walks_at, arrived_at, levels_at, label_at, is_proper, NoCarrier, Carrier};
 
 use super::{Stage, State};
 use crate::corner::is_proper;
 
 impl State {
     pub fn walks(&self) -> bool
-        ensures { result ≡ walks_at-is (stage_of (goods_of self.now) self.now.stage) }
+        ensures { result ≡ walks_at (stage_of (goods_of self.now) self.now.stage) }
     {
         match self.stage {
             Stage::Walking => true,
