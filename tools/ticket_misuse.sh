@@ -7,7 +7,7 @@ root=$(cd "$(dirname "$0")/.." && pwd)
 work=$(mktemp -d)
 trap 'rm -rf "$work"' EXIT
 tar -C "$root" --exclude=out -cf - crates.txt crates | tar -C "$work" -xf -
-echo 'ticket_use: mesh labelling cells path state walk' >> "$work/crates.txt"
+echo 'ticket_use: tables mesh labelling cells path state walk' >> "$work/crates.txt"
 mkdir -p "$work/crates/ticket_use/src"
 failed=0
 

@@ -1,6 +1,5 @@
 -- Prices and levels are two ways to say the same.
-use Rattle.std.proofs.Common.{◌≡◌, ℕ, zero, suc, ◌+◌, ◌-◌, ◌<◌, ◌≤◌, leb, Bool, true, false, List, [], ◌∷◌, length, get_or, take, drop, sum, sym, refl, ap, ◌∙◌, arith}
-use Rattle.std.proofs.lemmas.List.{ext_get_or, get_or-take, length-take-le}
+use Rattle.std.proofs.Common.{◌≡◌, ℕ, zero, suc, ◌+◌, ◌-◌, ◌<◌, ◌≤◌, leb, Bool, true, false, List, [], ◌∷◌, length, get_or, drop, sum, sym, refl, ap, ◌∙◌, arith}
 use Rattle.std.proofs.lemmas.List.Sums.{sum_by-cons}
 use Rattle.std.proofs.lemmas.Bool.{and_parts, and_from, and_left, and_right, leb-true, leb-false, le-leb, lt-leb}
 use Rattle.std.specs.List.{IsAllAdjacentAnswer}
@@ -55,14 +54,6 @@ price-is (u ∷ us) zero = at us
     at (v ∷ vs) = refl
 price-is (u ∷ us) (suc j) = let e : suc (j + 1) ≡ suc j + 1 = omega arith in price-is us j ∙ ap (λ n. get_or us j 0 - get_or (u ∷ us) n 0) e
 
--- A table that has each price has all of them.
-pub prices-are : (u r : List ℕ) → length u ≤ length r → ((k : ℕ) → k < length u → get_or r k 0 ≡ get_or (to_prices u) k 0)
-    → take (length u) r ≡ to_prices u
-prices-are u r room places =
-    let size : length (take (length u) r) ≡ length u = length-take-le (length u) r room in
-    ext_get_or 0 (take (length u) r) (to_prices u) (size ∙ sym (length-prices u))
-    (λ k h. get_or-take (length u) r k 0 (omega arith) ∙ places k (omega arith))
-
 -- The test and the fact.
 pub falls-true : (u : List ℕ) → falls u ≡ true → Falls u
 falls-true [] e = tt
@@ -100,10 +91,3 @@ falls-not (u ∷ (v ∷ vs)) (suc i) h lt =
 pub falls-answer : (u : List ℕ) (r : Bool) → IsAllAdjacentAnswer (λ x y b. b ≡ leb y x) u r → r ≡ falls u
 falls-answer u true all = sym (falls-from u (λ i h. leb-true _ _ (sym (all i 0 h))))
 falls-answer u false (k, inside, rise) = sym (falls-not u k inside (leb-false _ _ (sym (rise 0))))
-
--- A table that has the sum of the prices from each place on holds the levels.
-pub levels-are : (x r : List ℕ) (g : ℕ) → length x ≡ g → g ≤ length r → ((j : ℕ) → j < g → get_or r j 0 ≡ sum (drop j x)) → take g r ≡ to_levels x
-levels-are x r g size room sums =
-    let long : length (take g r) ≡ g = length-take-le g r room in
-    ext_get_or 0 (take g r) (to_levels x) (long ∙ sym size ∙ sym (length-levels x))
-    (λ k h. get_or-take g r k 0 (omega arith) ∙ sums k (omega arith) ∙ sym (level-is x k (omega arith)))

@@ -2,11 +2,12 @@
 use Rattle.std.proofs.Common.{◌≡◌, ℕ, ◌≤◌, ◌<◌, true, List, length, get_or, take, drop, sum, sym, ap, ◌∙◌, arith}
 use Rattle.std.proofs.lemmas.List.{length-take}
 use Rattle.std.proofs.lemmas.Bool.{and_parts, eqb-true}
+use Rattle.tables.proofs.Made.{front}
 use Rattle.mesh.specs.Prices.{first, Falls, to_prices, to_levels}
 use Rattle.mesh.specs.Points.{goods_of, mesh_of, prices_of, levels_fit}
 use Rattle.mesh.specs.declared.grid.Grid.{Grid}
 use Rattle.mesh.specs.declared.point.PricePoint.{PricePoint}
-use Rattle.mesh.proofs.Levels.{levels-are, prices-levels, falls-levels, falls-true, first-levels, sum-prices, levels-prices}
+use Rattle.mesh.proofs.Levels.{length-levels, level-is, prices-levels, falls-levels, falls-true, first-levels, sum-prices, levels-prices}
 
 module _ (p : PricePoint) where
   -- As many prices as goods.
@@ -21,7 +22,9 @@ module _ (p : PricePoint) where
       × (first (take (goods_of p) r) ≡ mesh_of p)
   levels-known r room sums =
       let few = p.grid.goods_fit.1 in
-      let e = levels-are (prices_of p) r (goods_of p) prices-size (omega arith) (λ j h. sums j (omega arith)) in (
+      let size : length (to_levels (prices_of p)) ≡ goods_of p = length-levels (prices_of p) ∙ prices-size in
+      let e : take (goods_of p) r ≡ to_levels (prices_of p)
+      = front (to_levels (prices_of p)) r (goods_of p) 0 size (omega arith) (λ j h. sums j (omega arith) ∙ sym (level-is (prices_of p) j (omega (arith, prices-size)))) in (
         e,
         ap to_prices e ∙ prices-levels (prices_of p),
         rw e (falls-levels (prices_of p)),

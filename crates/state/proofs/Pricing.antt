@@ -3,7 +3,8 @@
 --   first-level    the first level of a table
 --   scaled-are     a table of prices, each so many times as large
 use Rattle.std.proofs.Common.{◌≡◌, ℕ, zero, suc, ◌+◌, ◌-◌, ◌*◌, ◌<◌, ◌≤◌, List, [], ◌∷◌, map, length, get_or, take, sym, refl, ap, ◌∙◌, arith}
-use Rattle.std.proofs.lemmas.List.{ext_get_or, get_or-map, get_or-take, length-map, length-take-le}
+use Rattle.std.proofs.lemmas.List.{get_or-map, get_or-take, length-map, length-take-le}
+use Rattle.tables.proofs.Made.{front}
 use Rattle.mesh.specs.Prices.{price, first, to_prices}
 use Rattle.mesh.proofs.Levels.{price-is}
 use Rattle.mesh.proofs.Price.{price-at}
@@ -19,8 +20,6 @@ first-level (suc g) (v ∷ vs) low = refl
 pub scaled-are : (c g : ℕ) (x r : List ℕ) → g ≤ length x → g ≤ length r → ((k : ℕ) → k < g → get_or r k 0 ≡ c * get_or x k 0)
     → take g r ≡ map (λ n. c * n) (take g x)
 scaled-are c g x r in-x in-r places =
-    let size : length (take g r) ≡ g = length-take-le g r in-r in
     let size-x : length (take g x) ≡ g = length-take-le g x in-x in
-    ext_get_or 0 (take g r) (map (λ n. c * n) (take g x)) (size ∙ sym (length-map (take g x) (λ n. c * n) ∙ size-x))
-    (λ k h. get_or-take g r k 0 (omega arith) ∙ places k (omega arith)
-    ∙ sym (get_or-map (λ n. c * n) (take g x) k 0 0 (omega arith) ∙ ap (λ n. c * n) (get_or-take g x k 0 (omega arith))))
+    front (map (λ n. c * n) (take g x)) r g 0 (length-map (take g x) (λ n. c * n) ∙ size-x) in-r
+    (λ k h. places k h ∙ sym (get_or-map (λ n. c * n) (take g x) k 0 0 (omega arith) ∙ ap (λ n. c * n) (get_or-take g x k 0 h)))

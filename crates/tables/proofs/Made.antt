@@ -1,9 +1,11 @@
 -- Tables that `from_fn` and `map` make, where each call of the closure gives a known value and changes nothing.
 --   made      each entry is the value at its place
 --   mapped    each entry is the value at the entry of the other table
-use Rattle.std.proofs.Common.{◌≡◌, ℕ, zero, suc, ◌+◌, ◌<◌, ◌≤◌, List, get_or, refl, ◌∙◌, ⊎_elim, arith}
+--   front     a table that has the entries of a list, place by place, begins with the list
+use Rattle.std.proofs.Common.{◌≡◌, ℕ, zero, suc, ◌+◌, ◌<◌, ◌≤◌, List, length, get_or, take, sym, refl, ◌∙◌, ⊎_elim, arith}
 use Rattle.std.specs.Array.{IsFromFnResult, IsFromFnResultFrom, IsMapOf, MapsFrom}
 use Rattle.std.specs.Fn.{Mut, Called}
+use Rattle.std.proofs.lemmas.List.{ext_get_or, get_or-take, length-take-le}
 use Rattle.std.proofs.lemmas.Bool.{cases_lt}
 
 module _ {F B : Type 0} (g : Mut F (ℕ × Unit {0}) B) (value : ℕ → B) (f : F)
@@ -33,3 +35,8 @@ module _ {F A B : Type 0} (g : Mut F (A × Unit {0}) B) (value : A → B) (f : F
           (λ later. from (i + 1) n q c.1 rest k a d (omega arith) (omega arith))
           (λ now. let is : k ≡ i = omega arith in rw (is, there.1 a) (here.1 d ∙ c.0))
           (cases_lt i k)
+
+pub front : {A : Type 0} (xs table : List A) (n : ℕ) (d : A) → length xs ≡ n → n ≤ length table → ((k : ℕ) → k < n → get_or table k d ≡ get_or xs k d) → take n table ≡ xs
+front xs table n d size room same =
+    let long : length (take n table) ≡ n = length-take-le n table room in
+    ext_get_or d (take n table) xs (long ∙ sym size) (λ k h. get_or-take n table k d (omega arith) ∙ same k (omega arith))

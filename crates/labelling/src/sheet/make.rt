@@ -24,7 +24,7 @@ impl Sheet {
     pub fn new(mesh: u32, bytes: &[u8]) -> Result<Sheet, Refusal>
         ensures { answered sheet_of result ≡ sheet_for mesh bytes.now }
     {
-        if mesh < 1 || mesh > 64 {
+        if !(1..=64).contains(&mesh) {
             return Err(Refusal::SheetMeshOutOfRange);
         }
         if bytes.len() != mesh as usize + 1 {

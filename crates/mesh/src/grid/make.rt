@@ -19,10 +19,10 @@ impl Grid {
     pub fn new(goods: usize, mesh: u32) -> Result<Grid, Refusal>
         ensures { answered grid_of result ≡ grid_for goods mesh }
     {
-        if goods < 2 || goods > 8 {
+        if !(2..=8).contains(&goods) {
             return Err(Refusal::GoodsOutOfRange);
         }
-        if mesh < 1 || mesh > finest(goods) {
+        if !(1..=finest(goods)).contains(&mesh) {
             return Err(Refusal::MeshOutOfRange);
         }
         Ok(Grid { goods, mesh })
