@@ -2,7 +2,7 @@
 use Rattle.std.specs.Prelude.{◌≡◌, ℕ, suc, ◌-◌, ◌<◌, ◌≤◌, min, Bool, true, false, ◌&&◌, ◌||◌, ◌⊎◌, ◌==◌, ◌≢◌, refl}
 use Rattle.std.proofs.Common.{sym, ◌∙◌, ap, subst, inl, inr, arith}
 use Rattle.std.proofs.lemmas.Bool.Decides.{nat_tests}
-use Rattle.std.proofs.lemmas.Bool.{cases_Bool, cond-true, cond-false, eq-eqb, ne_eqb, eqb-true, and_parts, or_cases, and_from, or_left, or_right, both_ways}
+use Rattle.std.proofs.lemmas.Bool.{cases_Bool, cond-true, cond-false, ne_eqb, eqb-true, and_parts, or_cases, both_ways}
 use Rattle.cells.specs.Corners.{good_wall, skip}
 use Rattle.todd_laws.proofs.Family.{level, Cell, corner, First, Valid, next, swap, swapped, across, across-end, across-middle, AllOn, Same, Back, Next, Right}
 use Rattle.todd_laws.proofs.Orders.{swap-here, swap-next, swap-twice, swap-perm}
@@ -29,11 +29,10 @@ tied-turned : (lo : ℕ → ℕ) (a b : ℕ) → tied lo a b ≡ false → tied 
 tied-turned lo a b h = grind (arith, nat_tests)
 
 tied-here : (lo : ℕ → ℕ) (j : ℕ) → lo j ≡ lo (suc j) → tied lo j (suc j) ≡ true
-tied-here lo j e = and_from (lo j == lo (suc j)) _ (eq-eqb (lo j) (lo (suc j)) e) (or_left (suc j == suc j) (j == suc (suc j)) (eq-eqb (suc j) (suc j) refl))
+tied-here lo j e = grind (arith, nat_tests)
 
 tied-there : (lo : ℕ → ℕ) (j : ℕ) → lo j ≡ lo (suc j) → tied lo (suc j) j ≡ true
-tied-there lo j e =
-    and_from (lo (suc j) == lo j) _ (eq-eqb (lo (suc j)) (lo j) (sym e)) (or_right (j == suc (suc j)) (suc j == suc j) (eq-eqb (suc j) (suc j) refl))
+tied-there lo j e = grind (arith, nat_tests)
 
 -- Two neighbouring levels, as high, with neighbouring steps are alike but between their steps.
 step-alike : (v : Bool) (a m k : ℕ) → (k ≢ suc m) → level v a m k ≡ level v a (suc m) k

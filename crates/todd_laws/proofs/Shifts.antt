@@ -1,8 +1,7 @@
 -- A level that moves at one end of the order is taken to an end.
-use Rattle.std.specs.Prelude.{◌≡◌, ℕ, suc, ◌-◌, ◌<◌, ◌≤◌, Bool, true, false, ◌==◌, ◌≢◌, refl}
+use Rattle.std.specs.Prelude.{◌≡◌, ℕ, suc, ◌-◌, ◌<◌, ◌≤◌, Bool, true, false, ◌≢◌, refl}
 use Rattle.std.proofs.Common.{arith}
 use Rattle.std.proofs.lemmas.Bool.Decides.{nat_tests}
-use Rattle.std.proofs.lemmas.Bool.{cond-true, cond-false, eq-eqb, ne_eqb}
 use Rattle.cells.specs.Corners.{skip}
 use Rattle.todd_laws.proofs.Orders.{end-perm, front-perm}
 use Rattle.todd_laws.proofs.Family.{level, Cell, Perm, First, sooner, later, put, same, end, place, moved}
@@ -119,10 +118,10 @@ moved-perm g false true c a y perm = front-perm g c.ord c.at perm
 moved-perm g false false c a y perm = perm
 
 put-here : (lo : ℕ → ℕ) (a y : ℕ) → put lo a y a ≡ y
-put-here lo a y = cond-true (a == a) y (lo a) (eq-eqb a a refl)
+put-here lo a y = grind (arith, nat_tests)
 
 put_other : (lo : ℕ → ℕ) (a y j : ℕ) → (j ≢ a) → put lo a y j ≡ lo j
-put_other lo a y j n = cond-false (j == a) y (lo j) (ne_eqb j a n)
+put_other lo a y j n = grind (arith, nat_tests)
 
 pub moved-low : (g : ℕ) (w v : Bool) (c : Cell) (a y : ℕ) → (moved g w v c a y).lo a ≡ y
 moved-low g true true c a y = put-here c.lo a y
