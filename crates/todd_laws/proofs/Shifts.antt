@@ -72,28 +72,28 @@ shift_back g false false p i = refl
 -- The step at an end comes before all others or after all others.
 pub end-first : (g : ℕ) (u w : Bool) (q : ℕ) → same u w ≡ true → Inner g w q → First u (end g w) q
 end-first g true true q e i = i
-end-first g true false q e i = let z : ◌≡◌ {A = ℕ} 0 1 = cc in absurd (omega arith)
-end-first g false true q e i = let z : ◌≡◌ {A = ℕ} 0 1 = cc in absurd (omega arith)
+end-first g true false q e i = absurd cc
+end-first g false true q e i = absurd cc
 end-first g false false q e i = omega arith
 
 pub end-last : (g : ℕ) (u w : Bool) (q : ℕ) → same u w ≡ false → Inner g w q → First u q (end g w)
-end-last g true true q e i = let z : ◌≡◌ {A = ℕ} 0 1 = cc in absurd (omega arith)
+end-last g true true q e i = absurd cc
 end-last g true false q e i = omega arith
 end-last g false true q e i = i
-end-last g false false q e i = let z : ◌≡◌ {A = ℕ} 0 1 = cc in absurd (omega arith)
+end-last g false false q e i = absurd cc
 
 -- The value of a level that moves at the end, at all places but the one beyond.
 pub rest-high : (g : ℕ) (u w : Bool) (x k : ℕ) → same u w ≡ true → k < g → level u x (end g w) (far w k) ≡ suc x
 rest-high g true true x k e h = omega arith
-rest-high g true false x k e h = let z : ◌≡◌ {A = ℕ} 0 1 = cc in absurd (omega arith)
-rest-high g false true x k e h = let z : ◌≡◌ {A = ℕ} 0 1 = cc in absurd (omega arith)
+rest-high g true false x k e h = absurd cc
+rest-high g false true x k e h = absurd cc
 rest-high g false false x k e h = omega arith
 
 pub rest-low : (g : ℕ) (u w : Bool) (x k : ℕ) → same u w ≡ false → k < g → level u x (end g w) (far w k) ≡ x
-rest-low g true true x k e h = let z : ◌≡◌ {A = ℕ} 0 1 = cc in absurd (omega arith)
+rest-low g true true x k e h = absurd cc
 rest-low g true false x k e h = omega arith
 rest-low g false true x k e h = omega arith
-rest-low g false false x k e h = let z : ◌≡◌ {A = ℕ} 0 1 = cc in absurd (omega arith)
+rest-low g false false x k e h = absurd cc
 
 pub far_from : (g : ℕ) (w : Bool) (k : ℕ) → k ≤ g → (k ≢ place g w) → (m : ℕ) × (m < g) × (k ≡ far w m)
 far_from g true k h n = (k - 1, omega arith, omega arith)
