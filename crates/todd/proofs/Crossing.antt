@@ -1,7 +1,7 @@
 -- Crossing a record of a cell: what the code answers and leaves is what lies across.
 --   crosses-wall, -moved     by the test for a wall: at a wall, and to the neighbour
 --   at-last                  what lies across the last place
---   middle-wall, -moved      what lies across a place between
+--   middle_wall, _moved      what lies across a place between
 use Rattle.std.proofs.Common.{◌≡◌, ℕ, suc, ◌+◌, ◌-◌, ◌<◌, ◌≤◌, Bool, true, List, length, get_or, take, set, Some, None, Option, sym, refl, ap, ◌∙◌, arith, cond, eqb}
 use Rattle.std.specs.List.{swap}
 use Rattle.std.specs.Option.{option_map}
@@ -68,10 +68,10 @@ module _ (d : Grid) (c : Cell) (i : ℕ) (some : 1 ≤ i) (most : i < d.goods) (
       ∙ ap (λ u. stop d.mesh u (corner_at d c (i - 1)) (get_or c.order i 0)) (way-is d c holds (suc i) (omega arith) (omega arith) (get_or c.order i 0) there up way)
       ∙ ap (stop d.mesh (upward s (nth s.order (suc i))) (corner_at d c (i - 1))) (nth-is d c holds (suc i) (omega arith) (omega arith) (get_or c.order i 0) there)
 
-  pub middle-wall : (w : Wall) → r ≡ Some w → Crosses d.goods c (middle_across d c i) (Stopped w) c
-  middle-wall w is = crosses-wall _ _ _ tells-here is
+  pub middle_wall : (w : Wall) → r ≡ Some w → Crosses d.goods c (middle_across d c i) (Stopped w) c
+  middle_wall w is = crosses-wall _ _ _ tells-here is
 
-  pub middle-moved : (order : List ℕ) → r ≡ None → order ≡ swap c.order (i - 1) i
+  pub middle_moved : (order : List ℕ) → r ≡ None → order ≡ swap c.order (i - 1) i
       → Crosses d.goods c (middle_across d c i) (Moved i) (record { base = c.base; order = order; ups = c.ups })
-  middle-moved order is o =
+  middle_moved order is o =
       crosses-moved _ _ _ tells-here is (shape_is _ _ _ _ _ _ refl (ap (take d.goods) o ∙ swapped d.goods c.order i some most (omega (arith, length-take d.goods c.order, holds.order.size))) refl)

@@ -12,7 +12,9 @@ use cells::wall::Way;
 use mesh::grid::Grid;
 use mesh::refusal::Refusal;
 
+// What each of the two says for itself.
 pub(crate) trait Member {
+    // What it is as a triangulation.
     ghost meaning: { (g D : ℕ) → Mesh Shape g D };
 
     // Crosses a cell at the first place.

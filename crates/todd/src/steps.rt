@@ -87,6 +87,7 @@ pub(crate) fn stop_at(grid: &Grid, cell: &Cell, place: usize, up: bool, j: u8) -
 }
 
 // Crosses a cell at a place between the first and the last: the levels on both sides of it change places in the order.
+#[tactic(auto, using(crate::proofs::Crossing::middle_moved))]
 pub(crate) fn cross_middle(grid: &Grid, cell: &mut Cell, place: usize) -> Way
     requires { (1 ≤ place) × (place < grid.now.goods) }
     ensures crosses { Holds grid.now cell.old → Crosses grid.now.goods cell.old (middle_across grid.now cell.old place) result cell.new }

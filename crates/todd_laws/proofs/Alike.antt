@@ -1,7 +1,7 @@
 -- Cells that agree below g.
-use Rattle.std.specs.Prelude.{◌≡◌, ℕ, suc, ◌-◌, ◌<◌, ◌≤◌, Bool, true, false, nat_lt}
-use Rattle.std.proofs.Common.{sym, ◌∙◌, ap, subst, arith, inl, inr}
-use Rattle.std.proofs.lemmas.Bool.{cases_lt, lt-ltb, le-ltb, cond-true, cond-false}
+use Rattle.std.specs.Prelude.{◌≡◌, ℕ, suc, ◌-◌, ◌<◌, ◌≤◌, Bool, true, false}
+use Rattle.std.proofs.Common.{sym, ◌∙◌, ap, subst, arith}
+use Rattle.std.proofs.lemmas.Bool.Decides.{nat_tests}
 use Rattle.todd_laws.proofs.Family.{Cell, level, corner, Perm, First, Valid, Same, under, Label, Carries}
 
 -- An order determines its places.
@@ -41,10 +41,7 @@ pub corner-same : (g : ℕ) (up : ℕ → Bool) (c d : Cell) → Same g c d → 
 corner-same g up c d s k j h = ap (λ x. level (up x) x (c.at j) k) (s.lo j h) ∙ ap (λ q. level (up (d.lo j)) (d.lo j) q k) (s.at j h)
 
 under_same : (g : ℕ) (u v : ℕ → ℕ) → ((j : ℕ) → j < g → u j ≡ v j) → (j : ℕ) → under g u j ≡ under g v j
-under_same g u v e j = elim (cases_lt j g) [
-  | inl h ↦ cond-true (nat_lt j g) (u j) 0 (lt-ltb j g h) ∙ e j h ∙ sym (cond-true (nat_lt j g) (v j) 0 (lt-ltb j g h))
-  | inr h ↦ cond-false (nat_lt j g) (u j) 0 (le-ltb j g h) ∙ sym (cond-false (nat_lt j g) (v j) 0 (le-ltb j g h))
-]
+under_same g u v e j = grind (arith, nat_tests, e j)
 
 label_same : (g : ℕ) (c u v : ℕ → ℕ) (j : ℕ) → ((j : ℕ) → j < g → u j ≡ v j) → Label g c u j → Label g c v j
 label_same g c u v j e l = record {

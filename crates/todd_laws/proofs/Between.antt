@@ -14,7 +14,8 @@ use Rattle.todd_laws.proofs.Alike.{valid-like, corner-same}
 use Rattle.todd_laws.proofs.AcrossLaws.{Shows}
 use Rattle.todd_laws.proofs.Orders.{swap-perm, swap-here, swap-next, swap-else}
 use Rattle.todd_laws.proofs.Crossing.{shape-shows, shows-stop}
-use Rattle.todd_laws.proofs.Stops.{tied, mid-up, mid-down}
+use Rattle.todd_laws.proofs.Ties.{tied}
+use Rattle.todd_laws.proofs.Stops.{mid-up, mid-down}
 
 module _ (g D : ℕ) (up : ℕ → Bool) (some : 1 ≤ g) (s : Shape) (l : Listed g D up s) (d : Cell) (same : Same g (family s) d) where
   pub valid : Valid g D up d
@@ -61,7 +62,7 @@ module _ (g D : ℕ) (up : ℕ → Bool) (some : 1 ≤ g) (s : Shape) (l : Liste
 
   pub between : (m : ℕ) → suc m < g
       → Shows g up (or_else (stop D (upward s (nth s.order (suc (suc m)))) (j1_corner s m) (nth s.order (suc (suc m)))) (moved (j1_middle s (suc m)) (suc m))) (across-middle d m)
-  between m h = shows-stop g up (stop D (upward s (nth s.order (suc (suc m)))) (j1_corner s m) (nth s.order (suc (suc m)))) (tied d (d.ord m) (d.ord (suc m))) (good_wall (suc (min (d.ord m) (d.ord (suc m)))))
+  between m h = shows-stop g up (stop D (upward s (nth s.order (suc (suc m)))) (j1_corner s m) (nth s.order (suc (suc m)))) (tied d.lo (d.ord m) (d.ord (suc m))) (good_wall (suc (min (d.ord m) (d.ord (suc m)))))
       (moved (j1_middle s (suc m)) (suc m)) (fam.next (swapped d m) (suc m))
       (ap (λ n. stop D (upward s (nth s.order (suc (suc m)))) (j1_corner s m) n) (nth-is (suc m) h) ∙ ap (λ t. stop D t (j1_corner s m) (suc (d.ord (suc m)))) (upward-is (suc m) h) ∙ stopped (up (d.lo (d.ord (suc m)))) refl)
       (λ t.
@@ -70,7 +71,7 @@ module _ (g D : ℕ) (up : ℕ → Bool) (some : 1 ≤ g) (s : Shape) (l : Liste
       (swapped-order m h) same.lo (λ j i. sym (way-is j i)) l.solid in
       (r.0, r.1, refl))
     where
-      stopped : (u : Bool) → up (d.lo (d.ord (suc m))) ≡ u → stop D u (j1_corner s m) (suc (d.ord (suc m))) ≡ cond (tied d (d.ord m) (d.ord (suc m))) (Some (good_wall (suc (min (d.ord m) (d.ord (suc m)))))) None
+      stopped : (u : Bool) → up (d.lo (d.ord (suc m))) ≡ u → stop D u (j1_corner s m) (suc (d.ord (suc m))) ≡ cond (tied d.lo (d.ord m) (d.ord (suc m))) (Some (good_wall (suc (min (d.ord m) (d.ord (suc m)))))) None
       stopped true e = mid-up g D up d valid m (d.ord m) (d.ord (suc m)) h (valid.perm.ord-below m (omega arith)) (valid.perm.ord-below (suc m) h)
           (valid.perm.at-ord m (omega arith)) (valid.perm.at-ord (suc m) h) (j1_corner s m) (value-size m) (λ j i. value m j (omega arith) i) e
       stopped false e = mid-down g D up d valid m (d.ord m) (d.ord (suc m)) h (valid.perm.ord-below m (omega arith)) (valid.perm.ord-below (suc m) h)

@@ -10,6 +10,7 @@ use Rattle.todd_laws.specs.Steps.{nth, shift, stop, or_else, step}
 use Rattle.todd_laws.specs.J1.{j1, j1_corner, upward, j1_first, j1_last, j1_middle, turned}
 use Rattle.todd_laws.proofs.Family as fam
 use Rattle.todd_laws.proofs.Family.{Cell, Valid, Same, put, stays, gets, end, place, across-end, across-middle}
+use Rattle.todd_laws.proofs.Shifts.{end_below}
 use Rattle.todd_laws.proofs.Bridge.{family, way, least, up_j, Listed, Formed, length_shift, shift_same, shift-other}
 use Rattle.todd_laws.proofs.AcrossLaws.{Shows}
 use Rattle.todd_laws.proofs.Crossing.{shape-shows, shows-stop, shows-stops, shows-cond}
@@ -95,10 +96,6 @@ turn-solid : (u : Bool) (b x : ℕ) → (x ≢ 0) → least u b ≡ x → 1 ≤ 
 turn-solid true b x ne h = omega arith
 turn-solid false b x ne h = omega arith
 
-end_low : (g : ℕ) (w : Bool) → 1 ≤ g → end g w < g
-end_low g true h = h
-end_low g false h = omega arith
-
 module _ (g D : ℕ) (some : 1 ≤ g) (s : Shape) (l : Listed g D up_j s) (d : Cell) (same : Same g (family s) d) where
   ok : Valid g D up_j d
   ok = valid g D up_j some s l d same
@@ -136,10 +133,10 @@ module _ (g D : ℕ) (some : 1 ≤ g) (s : Shape) (l : Listed g D up_j s) (d : C
       ]
 
   low_end : (w : Bool) → d.ord (end g w) < g
-  low_end w = ok.perm.ord-below (end g w) (end_low g w some)
+  low_end w = ok.perm.ord-below (end g w) (end_below g w some)
 
   at-end : (w : Bool) → d.at (d.ord (end g w)) ≡ end g w
-  at-end w = ok.perm.at-ord (end g w) (end_low g w some)
+  at-end w = ok.perm.at-ord (end g w) (end_below g w some)
 
   -- Another level moves at another step.
   else-at : (w : Bool) (j : ℕ) → j < g → (d.lo j ≢ d.lo (d.ord (end g w))) → d.at j ≢ end g w

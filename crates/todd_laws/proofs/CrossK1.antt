@@ -2,6 +2,7 @@
 use Rattle.std.specs.Prelude.{◌≡◌, ℕ, zero, suc, ◌+◌, ◌-◌, ◌<◌, ◌≤◌, Bool, true, false, List, ◌∷◌, ◌++◌, length, take, drop, ◌==◌, ◌≢◌, slice_index, refl}
 use Rattle.std.proofs.Common.{sym, ◌∙◌, ap, subst, inl, inr, arith}
 use Rattle.std.proofs.lemmas.List.{get_or_append_left, get_or-append_right, get_or-drop, get_or-take, length-append, length-take, length-drop}
+use Rattle.std.proofs.lemmas.Bool.Decides.{nat_tests}
 use Rattle.std.proofs.lemmas.Bool.{cases_eq, both_ways, eqb-false, eq-eqb, ne_eqb, cond-true, cond-false}
 use Rattle.cells.specs.Corners.{outer_wall, real_wall, good_wall}
 use Rattle.cells.specs.Triangulation.{Shape, moved}
@@ -43,10 +44,7 @@ first-length g p some size = length-append (drop 1 p) (take 1 p) ∙ omega (arit
 
 last-order : (g : ℕ) (p : List ℕ) (o : ℕ → ℕ) → 1 ≤ g → ((k : ℕ) → k < g → slice_index p k ≡ suc (o k)) → (k : ℕ) → k < g → slice_index (nth p g ∷ take (g - 1) p) k ≡ suc (o (sooner g k))
 last-order g p o some e zero h = e (g - 1) (omega arith)
-last-order g p o some e (suc k) h =
-    let z : suc k - 1 ≡ k = omega arith in
-    get_or-take (g - 1) p k 0 (omega arith) ∙ e k (omega arith) ∙ ap (λ n. suc (o n)) (sym z)
-    ∙ ap (λ n. suc (o n)) (sym (cond-false (suc k == 0) (g - 1) (suc k - 1) (ne_eqb (suc k) 0 (λ q. omega arith))))
+last-order g p o some e (suc k) h = grind (arith, nat_tests, get_or-take (g - 1) p k 0, e k)
 
 module _ (g D : ℕ) (some : 1 ≤ g) (s : Shape) (l : Listed g D up_k s) (d : Cell) (same : Same g (family s) d) where
   ok : Valid g D up_k d

@@ -2,7 +2,8 @@
 use Rattle.std.specs.Prelude.{◌≡◌, ℕ, zero, suc, ◌+◌, ◌-◌, ◌<◌, ◌≤◌, List, [], ◌∷◌, length, nat_lt, slice_index}
 use Rattle.std.proofs.Common.{sym, ◌∙◌, ap, subst, inl, inr, arith}
 use Rattle.std.proofs.lemmas.List.{get_or_past}
-use Rattle.std.proofs.lemmas.Bool.{cases_lt, cases_Bool, ltb-true, ltb-false, lt-ltb, le-ltb, cond-true, cond-false}
+use Rattle.std.proofs.lemmas.Bool.Decides.{nat_tests}
+use Rattle.std.proofs.lemmas.Bool.{cases_Bool, ltb-true, ltb-false, le-ltb, cond-true, cond-false}
 use Rattle.mesh.specs.Prices.{to_prices}
 use Rattle.mesh.proofs.Levels.{price-is, length-prices}
 use Rattle.cells.specs.Corners.{first_above, outer_label}
@@ -14,7 +15,7 @@ Above c x j = (slice_index c j < slice_index x j) × ((i : ℕ) → i < j → sl
 above-is : (k : ℕ) (c x : List ℕ) (j : ℕ) → j < length c → j < length x → Above c x j → first_above k c x ≡ suc (k + j)
 above-is k [] x j h l a = absurd (omega arith)
 above-is k (c ∷ cs) [] j h l a = absurd (omega arith)
-above-is k (c ∷ cs) (x ∷ xs) zero h l a = cond-true (nat_lt c x) (suc k) (first_above (suc k) cs xs) (lt-ltb c x a.0) ∙ omega arith
+above-is k (c ∷ cs) (x ∷ xs) zero h l a = grind (arith, nat_tests, a.0)
 above-is k (c ∷ cs) (x ∷ xs) (suc j) h l a =
     let e : suc (suc k + j) ≡ suc (k + suc j) = omega arith in
     cond-false (nat_lt c x) (suc k) (first_above (suc k) cs xs) (le-ltb c x (a.1 0 (omega arith)))
@@ -23,10 +24,7 @@ above-is k (c ∷ cs) (x ∷ xs) (suc j) h l a =
 above_low : (k : ℕ) (c x : List ℕ) (m : ℕ) → first_above k c x ≡ suc m → k ≤ m
 above_low k [] x m e = absurd (omega arith)
 above_low k (c ∷ cs) [] m e = absurd (omega arith)
-above_low k (c ∷ cs) (x ∷ xs) m e = elim (cases_Bool (nat_lt c x)) [
-  | inl t ↦ omega (arith, cond-true (nat_lt c x) (suc k) (first_above (suc k) cs xs) t)
-  | inr f ↦ omega (arith, above_low (suc k) cs xs m (sym (cond-false (nat_lt c x) (suc k) (first_above (suc k) cs xs) f) ∙ e))
-]
+above_low k (c ∷ cs) (x ∷ xs) m e = grind (arith, nat_tests, above_low (suc k) cs xs m)
 
 is-above : (k : ℕ) (c x : List ℕ) (j : ℕ) → first_above k c x ≡ suc (k + j) → Above c x j
 is-above k [] x j e = absurd (omega arith)
@@ -51,10 +49,7 @@ is-above k (c ∷ cs) (x ∷ xs) (suc j) e = elim (cases_Bool (nat_lt c x)) [
 
 -- The levels of a list, as a function.
 pub under-is : (g : ℕ) (v : List ℕ) (u : ℕ → ℕ) → length v ≡ g → ((j : ℕ) → j < g → slice_index v j ≡ u j) → (j : ℕ) → under g u j ≡ slice_index v j
-under-is g v u size e j = elim (cases_lt j g) [
-  | inl h ↦ cond-true (nat_lt j g) (u j) 0 (lt-ltb j g h) ∙ sym (e j h)
-  | inr h ↦ cond-false (nat_lt j g) (u j) 0 (le-ltb j g h) ∙ sym (get_or_past v j 0 (omega arith))
-]
+under-is g v u size e j = grind (arith, nat_tests, e j, get_or_past v j 0)
 
 module _ (g : ℕ) (c v : List ℕ) (u : ℕ → ℕ) (goods : length c ≡ g) (size : length v ≡ g) (same : (j : ℕ) → j < g → slice_index v j ≡ u j) where
   pub price-under : (j : ℕ) → slice_index (to_prices v) j ≡ under g u j - under g u (suc j)

@@ -2,6 +2,7 @@ pub mod Triangulations
 pub mod Bridge
 pub mod Family
 pub mod Orders
+pub mod Ties
 pub mod FamilyLaws
 pub mod Corners
 pub mod Rising

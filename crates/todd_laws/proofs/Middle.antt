@@ -1,10 +1,11 @@
 -- What lies across a place between two steps.
-use Rattle.std.specs.Prelude.{◌≡◌, ℕ, suc, ◌-◌, ◌<◌, ◌≤◌, min, Bool, true, false, ◌&&◌, ◌||◌, ◌⊎◌, ◌==◌, ◌≢◌, refl}
+use Rattle.std.specs.Prelude.{◌≡◌, ℕ, suc, ◌-◌, ◌<◌, ◌≤◌, min, Bool, true, false, ◌⊎◌, ◌==◌, ◌≢◌, refl}
 use Rattle.std.proofs.Common.{sym, ◌∙◌, ap, subst, inl, inr, arith}
 use Rattle.std.proofs.lemmas.Bool.Decides.{nat_tests}
-use Rattle.std.proofs.lemmas.Bool.{cases_Bool, cond-true, cond-false, eq-eqb, ne_eqb, eqb-true, and_parts, or_cases, and_from, or_left, or_right, both_ways}
+use Rattle.std.proofs.lemmas.Bool.{cases_Bool, cond-true, cond-false, ne_eqb, both_ways}
 use Rattle.cells.specs.Corners.{good_wall, skip}
 use Rattle.todd_laws.proofs.Family.{level, Cell, corner, First, Valid, next, swap, swapped, across, across-end, across-middle, AllOn, Same, Back, Next, Right}
+use Rattle.todd_laws.proofs.Ties.{tied, tied-turned, tied-after, tied-before, tied-cases}
 use Rattle.todd_laws.proofs.Orders.{swap-here, swap-next, swap-twice, swap-perm}
 use Rattle.todd_laws.proofs.Starts.{under-in}
 use Rattle.todd_laws.proofs.Walls.{Neighbours, no-wall-holds}
@@ -21,32 +22,10 @@ swap-order : (v : Bool) (m p q : ℕ) → (p ≡ m → q ≢ suc m) → (q ≡ m
 swap-order true m p q n o h = swap-less m p q n h
 swap-order false m p q n o h = swap-less m q p o h
 
--- The levels a and b are neighbours, and as high.
-abbrev tied : (ℕ → ℕ) → ℕ → ℕ → Bool
-tied lo a b = lo a == lo b && (b == suc a || a == suc b)
-
-tied-turned : (lo : ℕ → ℕ) (a b : ℕ) → tied lo a b ≡ false → tied lo b a ≡ false
-tied-turned lo a b h = grind (arith, nat_tests)
-
-tied-here : (lo : ℕ → ℕ) (j : ℕ) → lo j ≡ lo (suc j) → tied lo j (suc j) ≡ true
-tied-here lo j e = and_from (lo j == lo (suc j)) _ (eq-eqb (lo j) (lo (suc j)) e) (or_left (suc j == suc j) (j == suc (suc j)) (eq-eqb (suc j) (suc j) refl))
-
-tied-there : (lo : ℕ → ℕ) (j : ℕ) → lo j ≡ lo (suc j) → tied lo (suc j) j ≡ true
-tied-there lo j e =
-    and_from (lo (suc j) == lo j) _ (eq-eqb (lo (suc j)) (lo j) (sym e)) (or_right (j == suc (suc j)) (suc j == suc j) (eq-eqb (suc j) (suc j) refl))
-
 -- Two neighbouring levels, as high, with neighbouring steps are alike but between their steps.
 step-alike : (v : Bool) (a m k : ℕ) → (k ≢ suc m) → level v a m k ≡ level v a (suc m) k
 step-alike true a m k n = omega arith
 step-alike false a m k n = omega arith
-
--- The pair of levels behind a tie.
-tied-cases : (lo : ℕ → ℕ) (a b : ℕ) → tied lo a b ≡ true → (lo a ≡ lo b) × ((b ≡ suc a) ⊎ (a ≡ suc b))
-tied-cases lo a b h =
-    let x = and_parts (lo a == lo b) (b == suc a || a == suc b) h in (
-      eqb-true (lo a) (lo b) x.0,
-      elim (or_cases (b == suc a) (a == suc b) x.1) [ inl y ↦ inl (eqb-true b (suc a) y) | inr y ↦ inr (eqb-true a (suc b) y) ],
-    )
 
 -- Between two steps `across` is `across-middle`.
 pub across-between : (g : ℕ) (up : ℕ → Bool) (c : Cell) (m : ℕ) → suc m < g → across g up c (suc m) ≡ across-middle c m
@@ -110,13 +89,13 @@ module _ (g D : ℕ) (up : ℕ → Bool) (some : 1 ≤ g) (c : Cell) (valid : Va
     not-here j l e x y =
         let p : j ≡ a = sym (valid.perm.ord-at j (omega arith)) ∙ ap c.ord x in
         let q : suc j ≡ b = sym (valid.perm.ord-at (suc j) l) ∙ ap c.ord y in
-        both_ways (tied c.lo a b) free (subst (λ z. tied c.lo z b ≡ true) p (subst (λ z. tied c.lo j z ≡ true) q (tied-here c.lo j e)))
+        both_ways (tied c.lo a b) free (subst (λ z. tied c.lo z b ≡ true) p (subst (λ z. tied c.lo j z ≡ true) q (tied-after c.lo j (suc j) e refl)))
 
     not_there : (j : ℕ) → suc j < g → c.lo j ≡ c.lo (suc j) → c.at (suc j) ≡ m → c.at j ≢ suc m
     not_there j l e x y =
         let p : suc j ≡ a = sym (valid.perm.ord-at (suc j) l) ∙ ap c.ord x in
         let q : j ≡ b = sym (valid.perm.ord-at j (omega arith)) ∙ ap c.ord y in
-        both_ways (tied c.lo a b) free (subst (λ z. tied c.lo z b ≡ true) p (subst (λ z. tied c.lo (suc j) z ≡ true) q (tied-there c.lo j e)))
+        both_ways (tied c.lo a b) free (subst (λ z. tied c.lo z b ≡ true) p (subst (λ z. tied c.lo (suc j) z ≡ true) q (tied-before c.lo (suc j) j (sym e) refl)))
 
     d-valid : Valid g D up d
     d-valid =

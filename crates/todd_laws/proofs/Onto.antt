@@ -1,7 +1,8 @@
 -- As many different values below n as there are places: each value occurs. The place of a number in a list.
 use Rattle.std.specs.Prelude.{◌≡◌, ℕ, zero, suc, ◌<◌, ◌≤◌, cond, ◌⊎◌, List, [], ◌∷◌, length, ◌==◌, ◌≢◌, slice_index}
 use Rattle.std.proofs.Common.{sym, ap, ◌∙◌, inl, inr, arith}
-use Rattle.std.proofs.lemmas.Bool.{cases_lt, cases_eq, cases_Bool, eqb-true, eq-eqb, ne_eqb, cond-true, cond-false}
+use Rattle.std.proofs.lemmas.Bool.Decides.{nat_tests}
+use Rattle.std.proofs.lemmas.Bool.{cases_lt, cases_eq, cases_Bool, eqb-true, eq-eqb, cond-true, cond-false}
 use Rattle.cells.specs.Corners.{Apart}
 use Rattle.cells.proofs.Pigeons.{pigeonhole}
 
@@ -36,24 +37,10 @@ onto n f below apart y h =
     ]
   where
     small : (k : ℕ) → k < suc n → more n f y k < n
-    small k low =
-        elim (cases_eq k n) [
-          | inl e ↦ rw (cond-true (k == n) y (f k) (eq-eqb k n e)) h
-          | inr ne ↦ rw (cond-false (k == n) y (f k) (ne_eqb k n ne)) (below k (omega (arith, low, ne)))
-        ]
+    small k low = grind (arith, nat_tests, below k)
 
     differ : ((k : ℕ) → k < n → f k ≢ y) → Apart (suc n) (more n f y)
-    differ none i j hi hj e =
-        elim (cases_eq i n) [
-          | inl a ↦ elim (cases_eq j n) [
-            | inl b ↦ a ∙ sym b
-            | inr b ↦ absurd (none j (omega (arith, hj, b)) (sym (cond-false (j == n) y (f j) (ne_eqb j n b)) ∙ sym e ∙ cond-true (i == n) y (f i) (eq-eqb i n a)))
-          ]
-          | inr a ↦ elim (cases_eq j n) [
-            | inl b ↦ absurd (none i (omega (arith, hi, a)) (sym (cond-false (i == n) y (f i) (ne_eqb i n a)) ∙ e ∙ cond-true (j == n) y (f j) (eq-eqb j n b)))
-            | inr b ↦ apart i j (omega (arith, hi, a)) (omega (arith, hj, b)) (sym (cond-false (i == n) y (f i) (ne_eqb i n a)) ∙ e ∙ cond-false (j == n) y (f j) (ne_eqb j n b))
-          ]
-        ]
+    differ none i j hi hj e = grind (arith, nat_tests, none i, none j, apart i j)
 
 -- The first place of x in a list.
 abbrev pub find : List ℕ → ℕ → ℕ

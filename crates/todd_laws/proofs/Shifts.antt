@@ -1,8 +1,7 @@
 -- A level that moves at one end of the order is taken to an end.
-use Rattle.std.specs.Prelude.{◌≡◌, ℕ, suc, ◌-◌, ◌<◌, ◌≤◌, Bool, true, false, ◌==◌, ◌≢◌, refl}
+use Rattle.std.specs.Prelude.{◌≡◌, ℕ, suc, ◌-◌, ◌<◌, ◌≤◌, Bool, true, false, ◌≢◌, refl}
 use Rattle.std.proofs.Common.{arith}
 use Rattle.std.proofs.lemmas.Bool.Decides.{nat_tests}
-use Rattle.std.proofs.lemmas.Bool.{cond-true, cond-false, eq-eqb, ne_eqb}
 use Rattle.cells.specs.Corners.{skip}
 use Rattle.todd_laws.proofs.Orders.{end-perm, front-perm}
 use Rattle.todd_laws.proofs.Family.{level, Cell, Perm, First, sooner, later, put, same, end, place, moved}
@@ -73,28 +72,28 @@ shift_back g false false p i = refl
 -- The step at an end comes before all others or after all others.
 pub end-first : (g : ℕ) (u w : Bool) (q : ℕ) → same u w ≡ true → Inner g w q → First u (end g w) q
 end-first g true true q e i = i
-end-first g true false q e i = let z : ◌≡◌ {A = ℕ} 0 1 = cc in absurd (omega arith)
-end-first g false true q e i = let z : ◌≡◌ {A = ℕ} 0 1 = cc in absurd (omega arith)
+end-first g true false q e i = absurd cc
+end-first g false true q e i = absurd cc
 end-first g false false q e i = omega arith
 
 pub end-last : (g : ℕ) (u w : Bool) (q : ℕ) → same u w ≡ false → Inner g w q → First u q (end g w)
-end-last g true true q e i = let z : ◌≡◌ {A = ℕ} 0 1 = cc in absurd (omega arith)
+end-last g true true q e i = absurd cc
 end-last g true false q e i = omega arith
 end-last g false true q e i = i
-end-last g false false q e i = let z : ◌≡◌ {A = ℕ} 0 1 = cc in absurd (omega arith)
+end-last g false false q e i = absurd cc
 
 -- The value of a level that moves at the end, at all places but the one beyond.
 pub rest-high : (g : ℕ) (u w : Bool) (x k : ℕ) → same u w ≡ true → k < g → level u x (end g w) (far w k) ≡ suc x
 rest-high g true true x k e h = omega arith
-rest-high g true false x k e h = let z : ◌≡◌ {A = ℕ} 0 1 = cc in absurd (omega arith)
-rest-high g false true x k e h = let z : ◌≡◌ {A = ℕ} 0 1 = cc in absurd (omega arith)
+rest-high g true false x k e h = absurd cc
+rest-high g false true x k e h = absurd cc
 rest-high g false false x k e h = omega arith
 
 pub rest-low : (g : ℕ) (u w : Bool) (x k : ℕ) → same u w ≡ false → k < g → level u x (end g w) (far w k) ≡ x
-rest-low g true true x k e h = let z : ◌≡◌ {A = ℕ} 0 1 = cc in absurd (omega arith)
+rest-low g true true x k e h = absurd cc
 rest-low g true false x k e h = omega arith
 rest-low g false true x k e h = omega arith
-rest-low g false false x k e h = let z : ◌≡◌ {A = ℕ} 0 1 = cc in absurd (omega arith)
+rest-low g false false x k e h = absurd cc
 
 pub far_from : (g : ℕ) (w : Bool) (k : ℕ) → k ≤ g → (k ≢ place g w) → (m : ℕ) × (m < g) × (k ≡ far w m)
 far_from g true k h n = (k - 1, omega arith, omega arith)
@@ -119,10 +118,10 @@ moved-perm g false true c a y perm = front-perm g c.ord c.at perm
 moved-perm g false false c a y perm = perm
 
 put-here : (lo : ℕ → ℕ) (a y : ℕ) → put lo a y a ≡ y
-put-here lo a y = cond-true (a == a) y (lo a) (eq-eqb a a refl)
+put-here lo a y = grind (arith, nat_tests)
 
 put_other : (lo : ℕ → ℕ) (a y j : ℕ) → (j ≢ a) → put lo a y j ≡ lo j
-put_other lo a y j n = cond-false (j == a) y (lo j) (ne_eqb j a n)
+put_other lo a y j n = grind (arith, nat_tests)
 
 pub moved-low : (g : ℕ) (w v : Bool) (c : Cell) (a y : ℕ) → (moved g w v c a y).lo a ≡ y
 moved-low g true true c a y = put-here c.lo a y

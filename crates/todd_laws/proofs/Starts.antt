@@ -1,17 +1,18 @@
 -- The cell at the levels of a start point carries every label, and no other cell does.
-use Rattle.std.specs.Prelude.{◌≡◌, ℕ, zero, suc, ◌+◌, ◌-◌, ◌<◌, ◌≤◌, Bool, true, false, nat_lt, refl}
+use Rattle.std.specs.Prelude.{◌≡◌, ℕ, zero, suc, ◌+◌, ◌-◌, ◌<◌, ◌≤◌, Bool, true, false, refl}
 use Rattle.std.proofs.Common.{sym, ◌∙◌, ap, subst, inl, inr, arith}
-use Rattle.std.proofs.lemmas.Bool.{cases_lt, cond-true, cond-false, lt-ltb, le-ltb}
+use Rattle.std.proofs.lemmas.Bool.Decides.{nat_tests}
+use Rattle.std.proofs.lemmas.Bool.{cases_lt}
 use Rattle.todd_laws.proofs.Family.{level, Cell, corner, Perm, First, Valid, Same, under, Carries, start}
 use Rattle.todd_laws.proofs.Rising.{rising_stays}
 use Rattle.todd_laws.proofs.Moves.{level-least, level-most}
 use Rattle.todd_laws.proofs.Corners.{same-ord}
 
 pub under-in : (g : ℕ) (u : ℕ → ℕ) (j : ℕ) → j < g → under g u j ≡ u j
-under-in g u j h = cond-true (nat_lt j g) (u j) 0 (lt-ltb j g h)
+under-in g u j h = grind (arith, nat_tests)
 
 pub under-past : (g : ℕ) (u : ℕ → ℕ) (j : ℕ) → g ≤ j → under g u j ≡ 0
-under-past g u j h = cond-false (nat_lt j g) (u j) 0 (le-ltb j g h)
+under-past g u j h = grind (arith, nat_tests)
 
 -- The place at which just the levels up to j have risen.
 abbrev label-place : ℕ → Bool → ℕ → ℕ

@@ -1,13 +1,14 @@
 -- The wall that stops a level, as the family finds it.
-use Rattle.std.specs.Prelude.{◌≡◌, ℕ, suc, ◌+◌, ◌-◌, ◌<◌, ◌≤◌, min, Bool, true, false, cond, ◌&&◌, ◌||◌, ◌⊎◌, List, length, Some, None, ◌==◌, ◌≢◌, nat_eq, slice_index, refl}
+use Rattle.std.specs.Prelude.{◌≡◌, ℕ, suc, ◌+◌, ◌-◌, ◌<◌, ◌≤◌, min, Bool, true, false, cond, ◌&&◌, List, length, Some, None, ◌==◌, ◌≢◌, nat_eq, slice_index, refl}
 use Rattle.std.proofs.Common.{sym, ◌∙◌, ap, subst, inl, inr, arith}
 use Rattle.std.proofs.lemmas.List.{get_or_past}
-use Rattle.std.proofs.lemmas.Bool.{cases_lt, cases_eq, both_ways, eqb-true, eq-eqb, ne_eqb, cond-true, cond-false, and_parts, and_from, and_left, and_right, or_cases, or_left, or_right}
+use Rattle.std.proofs.lemmas.Bool.{cases_lt, cases_eq, both_ways, eqb-true, eq-eqb, ne_eqb, cond-true, cond-false, and_parts, and_from, and_left, and_right}
 use Rattle.std.proofs.lemmas.Bool.Decides.{nat_tests}
 use Rattle.mesh.specs.Prices.{first}
 use Rattle.cells.specs.Corners.{Wall, outer_wall, real_wall, good_wall}
 use Rattle.todd_laws.specs.Steps.{stop}
 use Rattle.todd_laws.proofs.Family.{Cell, level, corner, First, Valid, same, end}
+use Rattle.todd_laws.proofs.Ties.{tied, tied-after, tied-before, tied-cases}
 use Rattle.todd_laws.proofs.Bridge.{first-is}
 
 cond-wall : (b : Bool) (v w : Wall) → (b ≡ true → v ≡ w) → cond b (Some v) None ≡ cond b (Some w) None
@@ -66,23 +67,6 @@ first-up d m n e f = subst (λ d. First d m n) e f
 pub first-down : (d : Bool) (m n : ℕ) → d ≡ false → First d m n → n < m
 first-down d m n e f = subst (λ d. First d m n) e f
 
--- Two levels with the same smaller value, one after the other.
-abbrev pub tied : Cell → ℕ → ℕ → Bool
-tied c a b = c.lo a == c.lo b && (b == suc a || a == suc b)
-
-tied-parts : (c : Cell) (a b : ℕ) → tied c a b ≡ true → (c.lo a ≡ c.lo b) × ((b ≡ suc a) ⊎ (a ≡ suc b))
-tied-parts c a b e =
-    let p = and_parts (c.lo a == c.lo b) (b == suc a || a == suc b) e in (
-      eqb-true (c.lo a) (c.lo b) p.0,
-      elim (or_cases (b == suc a) (a == suc b) p.1) [ inl q ↦ inl (eqb-true b (suc a) q) | inr q ↦ inr (eqb-true a (suc b) q) ],
-    )
-
-tied-after : (c : Cell) (a b : ℕ) → c.lo a ≡ c.lo b → b ≡ suc a → tied c a b ≡ true
-tied-after c a b e q = and_from (c.lo a == c.lo b) (b == suc a || a == suc b) (eq-eqb (c.lo a) (c.lo b) e) (or_left (b == suc a) (a == suc b) (eq-eqb b (suc a) q))
-
-tied-before : (c : Cell) (a b : ℕ) → c.lo a ≡ c.lo b → a ≡ suc b → tied c a b ≡ true
-tied-before c a b e q = and_from (c.lo a == c.lo b) (b == suc a || a == suc b) (eq-eqb (c.lo a) (c.lo b) e) (or_right (b == suc a) (a == suc b) (eq-eqb a (suc b) q))
-
 -- Between two steps: the level a moves at step m, and b at the next.
 module _ (g D : ℕ) (up : ℕ → Bool) (c : Cell) (valid : Valid g D up c) (m a b : ℕ) (h : suc m < g) (low-a : a < g) (low-b : b < g) (at_a : c.at a ≡ m) (at_b : c.at b ≡ suc m)
     (v : List ℕ) (size : length v ≡ g) (at : (j : ℕ) → j < g → slice_index v j ≡ corner up c m j) where
@@ -90,9 +74,9 @@ module _ (g D : ℕ) (up : ℕ → Bool) (c : Cell) (valid : Valid g D up c) (m 
   is-a j l e = sym (valid.perm.ord-at j l) ∙ ap c.ord (e ∙ sym at_a) ∙ valid.perm.ord-at a low-a
 
   -- Going up, b is the level after a; going down, a is the level after b.
-  up_next : up (c.lo b) ≡ true → tied c a b ≡ true → b ≡ suc a
+  up_next : up (c.lo b) ≡ true → tied c.lo a b ≡ true → b ≡ suc a
   up_next u e =
-      let p = tied-parts c a b e in
+      let p = tied-cases c.lo a b e in
       elim p.1 [
         | inl q ↦ q
         | inr q ↦
@@ -101,9 +85,9 @@ module _ (g D : ℕ) (up : ℕ → Bool) (c : Cell) (valid : Valid g D up c) (m 
             absurd (omega (arith, f, ap c.at q))
       ]
 
-  down-next : up (c.lo b) ≡ false → tied c a b ≡ true → a ≡ suc b
+  down-next : up (c.lo b) ≡ false → tied c.lo a b ≡ true → a ≡ suc b
   down-next u e =
-      let p = tied-parts c a b e in
+      let p = tied-cases c.lo a b e in
       elim p.1 [
         | inr q ↦ q
         | inl q ↦
@@ -118,7 +102,7 @@ module _ (g D : ℕ) (up : ℕ → Bool) (c : Cell) (valid : Valid g D up c) (m 
   b-down : up (c.lo b) ≡ false → slice_index v b ≡ suc (c.lo b)
   b-down u = at b low-b ∙ level-down (up (c.lo b)) (c.lo b) (c.at b) m u ∙ omega arith
 
-  up_from : up (c.lo b) ≡ true → (j : ℕ) → b ≡ suc j → slice_index v b ≡ slice_index v j → tied c a b ≡ true
+  up_from : up (c.lo b) ≡ true → (j : ℕ) → b ≡ suc j → slice_index v b ≡ slice_index v j → tied c.lo a b ≡ true
   up_from u j e q =
       let l : suc j < g = omega arith in
       let k : j < g = omega arith in
@@ -127,27 +111,27 @@ module _ (g D : ℕ) (up : ℕ → Bool) (c : Cell) (valid : Valid g D up c) (m 
       let f = first-up (up (c.lo j)) (c.at j) (c.at (suc j)) w (valid.ties j l same) in
       let here : c.at j ≡ m = omega (arith, f, ap c.at e, b-up u, ap c.lo e, at j k, level-up (up (c.lo j)) (c.lo j) (c.at j) m w) in
       let z = is-a j k here in
-      tied-after c a b (ap c.lo (sym z) ∙ sym same ∙ ap c.lo (sym e)) (e ∙ ap suc z)
+      tied-after c.lo a b (ap c.lo (sym z) ∙ sym same ∙ ap c.lo (sym e)) (e ∙ ap suc z)
 
-  up_to : up (c.lo b) ≡ true → (j : ℕ) → b ≡ suc j → tied c a b ≡ true → slice_index v b ≡ slice_index v j
+  up_to : up (c.lo b) ≡ true → (j : ℕ) → b ≡ suc j → tied c.lo a b ≡ true → slice_index v b ≡ slice_index v j
   up_to u j e t =
-      let p = (tied-parts c a b t).0 in
+      let p = (tied-cases c.lo a b t).0 in
       let z : j ≡ a = omega (arith, up_next u t) in
       b-up u ∙ sym p ∙ sym (at a low-a ∙ level-up (up (c.lo a)) (c.lo a) (c.at a) m (ap up p ∙ u) ∙ omega arith) ∙ ap (λ n. slice_index v n) (sym z)
 
-  pub mid-up : up (c.lo b) ≡ true → stop D true v (suc b) ≡ cond (tied c a b) (Some (good_wall (suc (min a b)))) None
-  mid-up u = stop-up D v b (tied c a b) (good_wall (suc (min a b)))
+  pub mid-up : up (c.lo b) ≡ true → stop D true v (suc b) ≡ cond (tied c.lo a b) (Some (good_wall (suc (min a b)))) None
+  mid-up u = stop-up D v b (tied c.lo a b) (good_wall (suc (min a b)))
       (λ e.
-      let no_tie : tied c a b ≡ true → ⊥ = λ t. omega (arith, up_next u t) in
+      let no_tie : tied c.lo a b ≡ true → ⊥ = λ t. omega (arith, up_next u t) in
       let top : first v ≡ D = first-is v ∙ ap (λ n. slice_index v n) (sym e) ∙ b-up u ∙ ap c.lo e ∙ valid.top in
-      (bool_iff (first v == suc D) (tied c a b) (λ q. absurd (omega (arith, eqb-true (first v) (suc D) q))) (λ q. absurd (no_tie q)), λ q. absurd (no_tie q)))
+      (bool_iff (first v == suc D) (tied c.lo a b) (λ q. absurd (omega (arith, eqb-true (first v) (suc D) q))) (λ q. absurd (no_tie q)), λ q. absurd (no_tie q)))
       (λ ne.
       let e : b ≡ suc (b - 1) = omega arith in (
-        bool_iff (slice_index v b == slice_index v (b - 1)) (tied c a b) (λ q. up_from u (b - 1) e (eqb-true (slice_index v b) (slice_index v (b - 1)) q)) (λ q. eq-eqb (slice_index v b) (slice_index v (b - 1)) (up_to u (b - 1) e q)),
+        bool_iff (slice_index v b == slice_index v (b - 1)) (tied c.lo a b) (λ q. up_from u (b - 1) e (eqb-true (slice_index v b) (slice_index v (b - 1)) q)) (λ q. eq-eqb (slice_index v b) (slice_index v (b - 1)) (up_to u (b - 1) e q)),
         λ q. let n = up_next u q in let z : b ≡ suc (min a b) = omega arith in ap good_wall z,
       ))
 
-  down-from : up (c.lo b) ≡ false → slice_index v b ≡ slice_index v (suc b) → tied c a b ≡ true
+  down-from : up (c.lo b) ≡ false → slice_index v b ≡ slice_index v (suc b) → tied c.lo a b ≡ true
   down-from u q = elim (cases_lt (suc b) g) [
     | inr l ↦ absurd (omega (arith, get_or_past v (suc b) 0 (omega arith), b-down u))
     | inl l ↦
@@ -155,15 +139,15 @@ module _ (g D : ℕ) (up : ℕ → Bool) (c : Cell) (valid : Valid g D up c) (m 
         let f = first-down (up (c.lo b)) (c.at b) (c.at (suc b)) u (valid.ties b l same) in
         let here : c.at (suc b) ≡ m = omega (arith, f, b-down u, at (suc b) l, level-down (up (c.lo (suc b))) (c.lo (suc b)) (c.at (suc b)) m (ap up same ∙ u)) in
         let z = is-a (suc b) l here in
-        tied-before c a b (ap c.lo (sym z) ∙ same) (sym z)
+        tied-before c.lo a b (ap c.lo (sym z) ∙ same) (sym z)
   ]
 
-  down_to : up (c.lo b) ≡ false → tied c a b ≡ true → slice_index v b ≡ slice_index v (suc b)
+  down_to : up (c.lo b) ≡ false → tied c.lo a b ≡ true → slice_index v b ≡ slice_index v (suc b)
   down_to u t =
-      let p = (tied-parts c a b t).0 in
+      let p = (tied-cases c.lo a b t).0 in
       b-down u ∙ ap suc (sym p) ∙ sym (at a low-a ∙ level-down (up (c.lo a)) (c.lo a) (c.at a) m (ap up p ∙ u) ∙ omega arith) ∙ ap (λ n. slice_index v n) (down-next u t)
 
-  pub mid-down : up (c.lo b) ≡ false → stop D false v (suc b) ≡ cond (tied c a b) (Some (good_wall (suc (min a b)))) None
+  pub mid-down : up (c.lo b) ≡ false → stop D false v (suc b) ≡ cond (tied c.lo a b) (Some (good_wall (suc (min a b)))) None
   mid-down u =
       let real : (b == 0 && first v == D) ≡ false = elim (cases_eq b 0) [
         | inl e ↦ and_right (b == 0) (first v == D) (ne_eqb (first v) D (λ q. omega (arith, first-is v, ap (λ n. slice_index v n) e, b-down u, ap c.lo e, valid.top)))
@@ -172,8 +156,8 @@ module _ (g D : ℕ) (up : ℕ → Bool) (c : Cell) (valid : Valid g D up c) (m 
       stop-down D v b
       ∙ cond-false (b == 0 && first v == D) (Some real_wall) (cond (slice_index v b == slice_index v (suc b)) (Some (good_wall (suc b))) None) real
       ∙ ap (λ t. cond t (Some (good_wall (suc b))) None)
-      (bool_iff (slice_index v b == slice_index v (suc b)) (tied c a b) (λ q. down-from u (eqb-true (slice_index v b) (slice_index v (suc b)) q)) (λ q. eq-eqb (slice_index v b) (slice_index v (suc b)) (down_to u q)))
-      ∙ cond-wall (tied c a b) (good_wall (suc b)) (good_wall (suc (min a b))) (λ q. let n = down-next u q in let z : suc b ≡ suc (min a b) = omega arith in ap good_wall z)
+      (bool_iff (slice_index v b == slice_index v (suc b)) (tied c.lo a b) (λ q. down-from u (eqb-true (slice_index v b) (slice_index v (suc b)) q)) (λ q. eq-eqb (slice_index v b) (slice_index v (suc b)) (down_to u q)))
+      ∙ cond-wall (tied c.lo a b) (good_wall (suc b)) (good_wall (suc (min a b))) (λ q. let n = down-next u q in let z : suc b ≡ suc (min a b) = omega arith in ap good_wall z)
 
 -- At an end: no neighbour with the same smaller value moves beyond it.
 rise-tie : (g : ℕ) (w d : Bool) (m n : ℕ) → same d w ≡ true → n ≡ end g w → m < g → First d m n → ⊥
