@@ -1,1 +1,2 @@
+mod FirstBytes
 mod Pairs

@@ -1,7 +1,7 @@
 // Reading standard input, and bytes that are written as hexadecimal digits.
 #![tactic(auto)]
 
-ghost use Rattle.std.specs.Prelude.{◌≤◌, IfOk, vec_len};
+ghost use Rattle.std.specs.Prelude.{◌≡◌, ◌≤◌, IfOk, IfSome, take, vec_len};
 
 pub use hexadecimal::decode;
 use std::alloc::Global;
@@ -10,9 +10,10 @@ use std::io::Read;
 
 mod hexadecimal;
 
-// The first bytes of an input, at most so many.
+// The first bytes of an input, at most so many. Of an input whose bytes are known it is these.
 pub fn first_bytes<R: Read + Drop>(heap: Global, input: R, most: usize) -> io::Result<Vec<u8>>
-    ensures { IfOk result (λ bytes. vec_len bytes ≤ most) }
+    ensures at_most { IfOk result (λ bytes. vec_len bytes ≤ most) }
+    ensures first { IfOk result (λ bytes. IfSome (R.remaining input) (λ xs. bytes.items ≡ take most xs)) }
 {
     input.bytes().take(most).try_collect(heap)
 }
