@@ -55,7 +55,7 @@ fn cross<T: Triangulation>(
     dropped: usize,
     label: u8,
 ) -> Result<Progress, Refusal>
-    ensures crossed { dropped ≤ goods_of state.old → (mesh_on (T.meaning tri.now) (view_of state.old)).is_cell (view_of state.old).cell → (stepped (goods_of state.old) result, view_of state.new) ≡ crossed (mesh_on (T.meaning tri.now) (view_of state.old)) (view_of state.old) dropped label ((mesh_on (T.meaning tri.now) (view_of state.old)).across (view_of state.old).cell dropped) }
+    ensures crossed { let M = mesh_on (T.meaning tri.now) (view_of state.old) in dropped ≤ goods_of state.old → M.is_cell (view_of state.old).cell → (stepped (goods_of state.old) result, view_of state.new) ≡ crossed M (view_of state.old) dropped label (M.across (view_of state.old).cell dropped) }
     ensures kept { OnErr result (state.new ≡ state.old) }
 {
     let mut cell = state.cell;
@@ -79,7 +79,7 @@ fn enter<T: Triangulation>(
     cell: Cell,
     place: usize,
 ) -> Result<Progress, Refusal>
-    ensures entered { place ≤ goods_of state.old → (mesh_on (T.meaning tri.now) (view_of state.old)).is_cell (shape_of (goods_of state.old) cell) → (stepped (goods_of state.old) result, view_of state.new) ≡ crossed (mesh_on (T.meaning tri.now) (view_of state.old)) (view_of state.old) dropped label (moved (shape_of (goods_of state.old) cell) place) }
+    ensures entered { let M = mesh_on (T.meaning tri.now) (view_of state.old) in place ≤ goods_of state.old → M.is_cell (shape_of (goods_of state.old) cell) → (stepped (goods_of state.old) result, view_of state.new) ≡ crossed M (view_of state.old) dropped label (moved (shape_of (goods_of state.old) cell) place) }
     ensures kept { OnErr result (state.new ≡ state.old) }
 {
     let levels = tri.corner(state.start.grid(), &cell, place)?;
