@@ -1,4 +1,4 @@
-use Rattle.std.proofs.Common.{ap, ◌∙◌, ap₂}
+use Rattle.std.proofs.Common.{◌≡◌, ap, ◌∙◌, ap₂}
 use Rattle.cells.specs.declared.wall.Way.TheVariants.{Stopped}
 use Rattle.path.specs.Path.{ticket}
 use Rattle.state.specs.Views.{View, view_of}
@@ -17,8 +17,11 @@ pub returns-in-Stopped-Real-clause-crossed : goal.returns-in-Stopped-Real-clause
 returns-in-Stopped-Real-clause-crossed g c = λ place cell.
     let tri = c.args.tri.now in
     let state = c.args.state.now in
+    let own = ap (λ (v : View). v.number) c.arrive.ensures in
+    let latest = ap (λ (v : View). v.sight.mesh) c.arrive.ensures in
+    let number : c.of.result.number ≡ state.number = cc in
+    let mesh : c.of.result.mesh ≡ state.start.grid.mesh = cc in
     arrives (g.T.Triangulation.meaning tri) (λ n D two one. g.met.T.Triangulation.lawful tri n D two one) state.start.grid c.grid.result c.grid.ensures
     state.cell c.across.new.cell c.args.dropped c.in_ok-way.way c.in_ok-way.ensures c.from.result c.from.ensures place cell
     (view_of state) (view_of c.arrive.new.self) c.args.label _ (c.in-Stopped-Real.is ∙ ap Stopped c.in-Stopped-Real.field-0-is)
-    (ap₂ ticket (c.of.ensures.0 ∙ ap (λ (v : View). v.number) c.arrive.ensures) (c.of.ensures.1 ∙ c.mesh.ensures ∙ ap (λ (v : View). v.sight.mesh) c.arrive.ensures))
-    c.arrive.ensures
+    (ap₂ ticket number mesh) c.arrive.ensures
