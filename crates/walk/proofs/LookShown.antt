@@ -1,5 +1,5 @@
 -- Looking at a run is looking at its path.
---   look-shows      a look shows where the path stands
+--   look-told       a look shows where the path stands
 --   look-early, look-no-good, look-kept    looking for a label: too early, for no good, for one
 use Rattle.std.proofs.Common.{◌≡◌, ℕ, ◌≤◌, true, false, List, [], take, Some, None, Ok, Err, Result, MatchResult, sym, refl, ap, ◌∙◌}
 use Rattle.mesh.specs.Prices.{to_prices}
@@ -7,9 +7,9 @@ use Rattle.mesh.specs.Range.{between}
 use Rattle.mesh.specs.declared.refusal.Refusal.{Refusal}
 use Rattle.labelling.specs.Labels.{Rule}
 use Rattle.cells.specs.Triangulation.{Shape, Mesh, Lawful}
-use Rattle.path.specs.Path.{Opening, Call, look, look_for, sight, prices, refused, Path, Good, Arrived, saying, prices_on, finds, not_arrived, no_good, seen, Leads}
+use Rattle.path.specs.Path.{Opening, Call, look, look_for, sight, prices, refused, Sight, Path, Good, Arrived, saying, prices_on, finds, not_arrived, no_good, seen, Leads}
 use Rattle.path.proofs.Powers.{in-range, range-in}
-use Rattle.state.specs.Views.{View, view_of, arrived_at, NoCarrier}
+use Rattle.state.specs.Views.{View, view_of, sight_of, arrived_at, NoCarrier}
 use Rattle.state.specs.declared.record.State.{State}
 use Rattle.walk.specs.Answers.{found}
 use Rattle.walk.specs.Records.{PricesOf}
@@ -19,8 +19,12 @@ use Rattle.walk.proofs.Shown.{arrived-is, arrived-not, corner-shown, carries, ca
 
 module _ (T : (g D : ℕ) → Mesh Shape g D) (L : Rule) (o : Opening) (lawful : (g D : ℕ) → 2 ≤ g → 1 ≤ D → Lawful (T g D)) (calls : List Call) (p : Path)
     (leads : Leads T L o calls p) where
-  pub look-shows : (v : View) → v ≡ standing T L o p → (s : State) → view_of s ≡ v → Goes T L o calls look (sight v.sight) s
+  look-shows : (v : View) → v ≡ standing T L o p → (s : State) → view_of s ≡ v → Goes T L o calls look (sight v.sight) s
   look-shows v stands = rw stands (λ s shows. saying-goes T L o lawful calls p leads look (sight (seen T L o p)) refl s shows)
+
+  -- With what is shown at the record.
+  pub look-told : (s : State) → view_of s ≡ standing T L o p → (k : Sight) → k ≡ sight_of s → Goes T L o calls look (sight k) s
+  look-told s shows k is = rw is (look-shows (view_of s) shows s refl)
 
   module _ (j : ℕ) where
     pub look-early : (v : View) → v ≡ standing T L o p → arrived_at v.sight.stage ≡ None → (s : State) → view_of s ≡ v → Goes T L o calls (look_for j) (refused (9, [])) s

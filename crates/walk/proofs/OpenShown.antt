@@ -46,14 +46,16 @@ module _ (T : (g D : ℕ) → Mesh Shape g D) (L : Rule) (o : Opening) (lawful :
     begins-there false admitted (Err e) is = (is, tt, tt)
 
   module _ (point : Priced) (is : point_for o.goods o.mesh o.start ≡ Ok point) where
-    pub open-stands : (r : Result State Refusal)
-        → answered view_of r ≡ insist ((T point.goods point.mesh).admitted point.prices) 4 (Ok (fresh (T point.goods point.mesh) o.number 1 point.prices))
+    -- With its total at n, which is 1.
+    pub open-stands : (r : Result State Refusal) (n : ℕ)
+        → answered view_of r ≡ insist ((T point.goods point.mesh).admitted point.prices) 4 (Ok (fresh (T point.goods point.mesh) o.number n point.prices)) → n ≡ 1
         → (answered view_of r ≡ opened T L o) × IfOk r (λ s. Came T L o [] s) × IfOk r (λ s. Claim T L o (opening T L o))
     open-stands =
         let a = insist-ok (fit_goods o.goods) 1 _ point is in
         let b = insist-ok (fit_mesh o.goods o.mesh) 2 _ point a.1 in
         let c = insist-ok (prices_add_up o.goods o.mesh o.start) 3 _ point b.1 in
         let made_of : point ≡ record { goods = o.goods; mesh = o.mesh; prices = o.start } = cc c.1 in
-        rw made_of (λ r e.
-        let h = begins-there (holds _ a.0) (holds _ b.0) ((T o.goods o.mesh).admitted o.start) refl r e in
+        rw made_of (λ r n e first.
+        let h = begins-there (holds _ a.0) (holds _ b.0) ((T o.goods o.mesh).admitted o.start) refl r
+        (e ∙ ap (λ k. insist ((T o.goods o.mesh).admitted o.start) 4 (Ok (fresh (T o.goods o.mesh) o.number k o.start))) first) in
         (h.0 ∙ sym (passed (fit_goods o.goods) (fit_mesh o.goods o.mesh) (prices_add_up o.goods o.mesh o.start) _ a.0 b.0 c.0), h.1, h.2))

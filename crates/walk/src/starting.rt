@@ -1,39 +1,18 @@
 // Where a run begins, and the labels of corners.
-ghost use Rattle.std.specs.Prelude.{◌≡◌, suc, ◌<◌, true, Ok};
+ghost use Rattle.std.specs.Prelude.{◌≡◌, suc, ◌<◌, Ok};
 ghost use Rattle.mesh.specs.Points.{goods_of, mesh_of, prices_of};
 ghost use Rattle.mesh.specs.Refusals.{answered, insist};
-ghost use Rattle.cells.specs.Cells.{shape_of};
 ghost use Rattle.cells.specs.Corners.{Corner};
 ghost use Rattle.path.specs.Legs.{label};
 ghost use Rattle.state.specs.Views.{view_of};
 ghost use Rattle.walk.specs.Records.{fresh};
 
 use cells::Triangulation;
-use cells::cell::Cell;
 use cells::outer::outer_label;
 use labelling::Labelling;
 use mesh::point::PricePoint;
 use mesh::refusal::Refusal;
 use state::record::State;
-
-// The record of a run that begins at a point, after so many cells on other meshes, in a cell whose corners it places.
-fn stand_in<T: Triangulation>(
-    tri: &T,
-    number: u16,
-    before: u64,
-    point: PricePoint,
-    cell: &Cell,
-) -> Result<State, Refusal>
-    ensures { before < 18446744073709551615 → (T.meaning tri.now (goods_of point) (mesh_of point)).admitted (prices_of point) ≡ true → shape_of (goods_of point) cell.now ≡ (T.meaning tri.now (goods_of point) (mesh_of point)).start (prices_of point) → answered view_of result ≡ Ok (fresh (T.meaning tri.now (goods_of point) (mesh_of point)) number (suc before) (prices_of point)) }
-{
-    let grid = point.grid();
-    let mut state = State::begin(number, before, point, *cell);
-    for i in 0..grid.goods() + 1 {
-        let levels = tri.corner(grid, cell, i)?;
-        state.place(i, &levels);
-    }
-    Ok(state)
-}
 
 // The record of a run that begins at a point, after so many cells on other meshes. Refuses a point that is not admitted.
 pub(crate) fn stand<T: Triangulation>(
@@ -42,10 +21,16 @@ pub(crate) fn stand<T: Triangulation>(
     before: u64,
     point: PricePoint,
 ) -> Result<State, Refusal>
-    ensures { before < 18446744073709551615 → answered view_of result ≡ insist ((T.meaning tri.now (goods_of point) (mesh_of point)).admitted (prices_of point)) 4 (Ok (fresh (T.meaning tri.now (goods_of point) (mesh_of point)) number (suc before) (prices_of point))) }
+    ensures { let M = T.meaning tri.now (goods_of point) (mesh_of point) in before < 18446744073709551615 → answered view_of result ≡ insist (M.admitted (prices_of point)) 4 (Ok (fresh M number (suc before) (prices_of point))) }
 {
     let cell = tri.start(&point)?;
-    stand_in(tri, number, before, point, &cell)
+    let grid = point.grid();
+    let mut state = State::begin(number, before, point, cell);
+    for i in 0..grid.goods() + 1 {
+        let levels = tri.corner(grid, &cell, i)?;
+        state.place(i, &levels);
+    }
+    Ok(state)
 }
 
 // The label of a corner for a start point: its outer label, or the labelling's where it is real.

@@ -5,6 +5,7 @@ use market::market::Market;
 use market::reader::read;
 use mesh::refusal::Refusal;
 use std::alloc::{AllocError, Global};
+use std::str::FromStr;
 use walk::play::Call;
 use walk::run::Opening;
 
@@ -41,15 +42,23 @@ pub fn read_sheet(digits: &str) -> Result<Sheet, Refusal> {
     Sheet::new(labels.len().saturating_sub(1) as u32, labels)
 }
 
+// The number that a word says; 0 where there is no word, or it is no number.
+fn number_in<N: FromStr + Default>(word: Option<&str>) -> N
+where
+    N::Err: Drop,
+{
+    word.unwrap_or("").parse::<N>().unwrap_or_default()
+}
+
 // Run number, goods, mesh, and the start prices.
 pub fn read_opening(heap: Global, text: &str) -> Result<ParsedOpening, AllocError> {
     let mut words = text.split_whitespace();
-    let number = words.next().unwrap_or("").parse::<u16>().unwrap_or(0);
-    let goods = words.next().unwrap_or("").parse::<usize>().unwrap_or(0);
-    let mesh = words.next().unwrap_or("").parse::<u32>().unwrap_or(0);
+    let number = number_in(words.next());
+    let goods = number_in(words.next());
+    let mesh = number_in(words.next());
     let mut start = Vec::new(heap);
     for word in words {
-        start.push(word.parse::<u32>().unwrap_or(0))?;
+        start.push(number_in(Some(word)))?;
     }
     Ok(ParsedOpening {
         number,
@@ -62,16 +71,16 @@ pub fn read_opening(heap: Global, text: &str) -> Result<ParsedOpening, AllocErro
 // The ticket's run number and mesh, and the factor.
 fn read_refining(text: &str) -> Call {
     let mut words = text.split('.');
-    let number = words.next().unwrap_or("").parse::<u16>().unwrap_or(0);
-    let mesh = words.next().unwrap_or("").parse::<u32>().unwrap_or(0);
-    let factor = words.next().unwrap_or("").parse::<u32>().unwrap_or(0);
+    let number = number_in(words.next());
+    let mesh = number_in(words.next());
+    let factor = number_in(words.next());
     Call::Refine(number, mesh, factor)
 }
 
 // One call: s steps, l looks, f1 looks for label 1, r7.4.2 refines with the ticket of run 7 on mesh 4 by 2.
 fn read_call(word: &str) -> Call {
     if let Some(label) = word.strip_prefix('f') {
-        return Call::LookFor(label.parse::<usize>().unwrap_or(0));
+        return Call::LookFor(number_in(Some(label)));
     }
     if let Some(text) = word.strip_prefix('r') {
         return read_refining(text);

@@ -1,8 +1,6 @@
 // Stepping.
 ghost use Rattle.std.specs.Prelude.{◌≡◌, ◌≤◌, OnErr};
-ghost use Rattle.cells.specs.Cells.{shape_of};
 ghost use Rattle.cells.specs.Corners.{Corner};
-ghost use Rattle.cells.specs.Triangulation.{moved};
 ghost use Rattle.path.specs.Path.{step};
 ghost use Rattle.state.specs.Views.{view_of, goods_of, levels_at};
 ghost use Rattle.walk.specs.Answers.{stepped};
@@ -12,7 +10,6 @@ ghost use Rattle.walk.specs.Showing.{Makes};
 use super::{Progress, Run, Ticket};
 use crate::starting::label_of;
 use cells::Triangulation;
-use cells::cell::Cell;
 use cells::wall::{Wall, Way};
 use labelling::Labelling;
 use mesh::refusal::Refusal;
@@ -55,39 +52,27 @@ fn cross<T: Triangulation>(
     dropped: usize,
     label: u8,
 ) -> Result<Progress, Refusal>
-    ensures crossed { dropped ≤ goods_of state.old → (mesh_on (T.meaning tri.now) (view_of state.old)).is_cell (view_of state.old).cell → (stepped (goods_of state.old) result, view_of state.new) ≡ crossed (mesh_on (T.meaning tri.now) (view_of state.old)) (view_of state.old) dropped label ((mesh_on (T.meaning tri.now) (view_of state.old)).across (view_of state.old).cell dropped) }
+    ensures crossed { let M = mesh_on (T.meaning tri.now) (view_of state.old) in dropped ≤ goods_of state.old → M.is_cell (view_of state.old).cell → (stepped (goods_of state.old) result, view_of state.new) ≡ crossed M (view_of state.old) dropped label (M.across (view_of state.old).cell dropped) }
     ensures kept { OnErr result (state.new ≡ state.old) }
 {
+    let grid = state.start.grid();
     let mut cell = state.cell;
-    let way = tri.across(state.start.grid(), &mut cell, dropped)?;
+    let way = tri.across(grid, &mut cell, dropped)?;
     match Way::from(way) {
-        Way::Moved(place) => enter(tri, state, dropped, label, cell, place),
+        Way::Moved(place) => {
+            let levels = tri.corner(grid, &cell, place)?;
+            let entry = Entry {
+                cell,
+                place,
+                levels,
+            };
+            state.enter(dropped, label, &entry)?;
+            Ok(Progress::Moved)
+        }
         Way::Stopped(Wall::Real) => {
             state.arrive(dropped, label);
             Ok(Progress::Arrived(Ticket::of(state.number, state.start.mesh())))
         }
         Way::Stopped(_) => Err(Refusal::WayBlocked),
     }
-}
-
-// Enters a cell across a dropped corner, with its new corner at a place.
-fn enter<T: Triangulation>(
-    tri: &T,
-    state: &mut State,
-    dropped: usize,
-    label: u8,
-    cell: Cell,
-    place: usize,
-) -> Result<Progress, Refusal>
-    ensures entered { place ≤ goods_of state.old → (mesh_on (T.meaning tri.now) (view_of state.old)).is_cell (shape_of (goods_of state.old) cell) → (stepped (goods_of state.old) result, view_of state.new) ≡ crossed (mesh_on (T.meaning tri.now) (view_of state.old)) (view_of state.old) dropped label (moved (shape_of (goods_of state.old) cell) place) }
-    ensures kept { OnErr result (state.new ≡ state.old) }
-{
-    let levels = tri.corner(state.start.grid(), &cell, place)?;
-    let entry = Entry {
-        cell,
-        place,
-        levels,
-    };
-    state.enter(dropped, label, &entry)?;
-    Ok(Progress::Moved)
 }

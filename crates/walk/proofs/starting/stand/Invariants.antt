@@ -2,7 +2,7 @@ use Rattle.std.proofs.Common.{◌≡◌}
 use Rattle.cells.specs.Cells.{shape_of}
 use Rattle.state.specs.Views.{view_of, goods_of}
 use Rattle.walk.proofs.Placing.{placed_to}
-use Rattle.walk.proofs.starting.stand_in.Given as goal
+use Rattle.walk.proofs.starting.stand.Given as goal
 
 -- In a cell, the corners before i are placed.
 abbrev pub invariant-loop-i : goal.invariant-loop-i
