@@ -7,20 +7,19 @@ ghost use Rattle.market.specs.Markets.{traders_of, excess_for, owned_for, market
 ghost use Rattle.market.specs.MarketLabel.{label-byte};
 
 use super::Market;
-use crate::rows::Amounts;
 use labelling::Labelling;
 use mesh::point::PricePoint;
 use mesh::refusal::Refusal;
 
 // What an endowment is worth at these prices.
-fn worth(prices: &[u32], owned: &Amounts) -> u64
-    requires { (length prices.now ≤ 8) × ((sum prices.now ≤ 16384) × (length prices.now ≤ length owned.now.of)) }
-    ensures value { result ≡ dot prices.now owned.now.of }
+fn worth(prices: &[u32], owned: &[u16]) -> u64
+    requires { (length prices.now ≤ 8) × ((sum prices.now ≤ 16384) × (length prices.now ≤ length owned.now)) }
+    ensures value { result ≡ dot prices.now owned.now }
     ensures small { result ≤ 1073725440 }
 {
     let mut income = 0u64;
-    for k in 0..prices.len() {
-        income += u64::from(prices[k]) * u64::from(owned.of[k]);
+    for (price, amount) in prices.iter().zip(owned) {
+        income += u64::from(*price) * u64::from(*amount);
     }
     income
 }
@@ -50,8 +49,8 @@ impl Market {
         ensures small { result ≤ 1048560 }
     {
         let mut sum = 0u32;
-        for row in 0..self.rows() {
-            sum += u32::from(self.numbers.endowments[row].of[good - 1]);
+        for owner in self.rows() {
+            sum += u32::from(owner.owns[good - 1]);
         }
         sum
     }
@@ -64,9 +63,9 @@ impl Market {
         ensures small { result ≤ 1125865547366400 }
     {
         let mut sum = 0u64;
-        for a in 0..self.rows() {
-            let income = worth(prices, &self.numbers.endowments[a]);
-            sum += u64::from(self.numbers.weights[a].of[good - 1]) * income;
+        for trader in self.rows() {
+            let income = worth(prices, &trader.owns);
+            sum += u64::from(trader.weighs[good - 1]) * income;
         }
         sum
     }
