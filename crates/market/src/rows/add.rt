@@ -1,5 +1,5 @@
 // Adding what one field says.
-ghost use Rattle.std.specs.Prelude.{◌≡◌, ◌+◌, ◌*◌, ◌<◌, ◌≤◌, true, ◌++◌, length, take, sum, ◌==◌, slice_index};
+ghost use Rattle.std.specs.Prelude.{◌≡◌, ℕ, ◌+◌, ◌*◌, ◌<◌, ◌≤◌, true, ◌++◌, length, take, sum, ◌==◌, slice_index};
 ghost use Rattle.std.specs.List.{flat_map};
 ghost use Rattle.layout.specs.Layout.{two};
 ghost use Rattle.market.specs.Fields.{due_of};
@@ -8,6 +8,7 @@ ghost use Rattle.market.specs.Adding.{Written, unsaid, due_in, with_goods, with_
 
 use super::{Numbers, Span, Trader};
 use crate::field::{Due, byte_at, bytes_from, number_at};
+use std::array;
 
 // The number at one place among numbers of two bytes each.
 fn amount_at(body: &[u8], place: usize) -> u16
@@ -17,16 +18,11 @@ fn amount_at(body: &[u8], place: usize) -> u16
     number_at(body, 2 * place)
 }
 
-// So many numbers of two bytes each.
-fn amounts(body: &[u8], goods: usize) -> [u16; 8]
-    requires { (goods ≤ 8) × (length body.now ≡ 2 * goods) }
-    ensures { (length result ≡ 8) × ((flat_map two (take goods result) ≡ body.now) × (short (take goods result) ≡ true)) }
+// Numbers of two bytes each; 0 past the end.
+fn amounts(body: &[u8]) -> [u16; 8]
+    ensures { (length result ≡ 8) × ((k : ℕ) → k < 8 → slice_index result k ≡ 256 * slice_index body.now (2 * k) + slice_index body.now (2 * k + 1)) }
 {
-    let mut of = [0u16; 8];
-    for good in 0..goods {
-        of[good] = amount_at(body, good);
-    }
-    of
+    array::from_fn(|good| amount_at(body, good))
 }
 
 // The first bytes, so many of them or all.
@@ -60,8 +56,8 @@ impl Trader {
         ensures { Written body.now goods result }
     {
         let (owned, weighed) = body.split_at(2 * goods);
-        let owns = amounts(owned, goods);
-        let weighs = amounts(weighed, goods);
+        let owns = amounts(owned);
+        let weighs = amounts(weighed);
         Trader { owns, weighs }
     }
 
@@ -93,20 +89,23 @@ impl Numbers {
     }
 
     // First the goods, then their names, then the sum, then up to 16 traders.
-    pub(crate) fn due(&self) -> Due
+    pub(crate) fn due(&self) -> Option<Due>
         requires { self.now.goods ≤ 8 }
         ensures { due_of result ≡ due_in self.now }
     {
         if self.goods == 0 {
-            Due::Goods
+            Some(Due::Goods)
         } else if self.named < self.goods {
-            Due::Name
+            Some(Due::Name)
         } else if self.sum == 0 {
-            Due::Sum
+            Some(Due::Sum)
         } else if self.filled < 16 {
-            Due::Trader(self.goods as u8, self.sum)
+            Some(Due::Trader {
+                goods: self.goods as u8,
+                sum: self.sum,
+            })
         } else {
-            Due::Nothing
+            None
         }
     }
 
