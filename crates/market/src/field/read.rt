@@ -115,20 +115,16 @@ fn field_in<'f>(bytes: &'f [u8], at: usize, due: Option<Due>) -> Result<Field<'f
     let [tag, high, low, rest @ ..] = bytes else {
         return Err(Refusal::Truncated(at));
     };
-    let Some(due) = due else {
+    let Some(due) = due.filter(|due| due.takes_tag(*tag)) else {
         return Err(Refusal::TagNotDue(at));
     };
-    if !due.takes_tag(*tag) {
-        return Err(Refusal::TagNotDue(at));
-    }
     let len = 256 * usize::from(*high) + usize::from(*low);
     if !due.takes_length(len) {
         return Err(Refusal::LengthWrong(at));
     }
-    if len > rest.len() {
+    let Some(body) = rest.get(..len) else {
         return Err(Refusal::Truncated(at));
-    }
-    let body = &rest[0..len];
+    };
     if !due.takes_value(body) {
         return Err(Refusal::ValueOutOfRange(at));
     }
