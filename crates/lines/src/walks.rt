@@ -17,7 +17,7 @@ pub fn open_line(heap: Global, mesh: u32) -> Result<String, AllocError>
 fn prices_in<'r>(row: &'r [u32; 8], goods: usize) -> &'r [u32]
     ensures { result.now ≡ take goods row.now }
 {
-    &row[0..goods.min(8)]
+    row.get(..goods).unwrap_or(row)
 }
 
 // A corner: each of its prices after a blank.

@@ -1,5 +1,4 @@
 pub mod Worth
-pub mod Parts
 pub mod FieldChecks
 pub mod Words
 pub mod NameParts

@@ -28,7 +28,7 @@ pub(crate) fn number_at(bytes: &[u8], i: usize) -> u16
 pub(crate) fn bytes_from<'f>(bytes: &'f [u8], at: usize) -> &'f [u8]
     ensures { result.now ≡ drop at bytes.now }
 {
-    &bytes[at.min(bytes.len())..]
+    bytes.get(at..).unwrap_or(&[])
 }
 
 // A printing character of ASCII, or a blank.

@@ -29,7 +29,7 @@ fn amounts(body: &[u8]) -> [u16; 8]
 fn first_bytes<'f>(bytes: &'f [u8], len: usize) -> &'f [u8]
     ensures { result.now ≡ take len bytes.now }
 {
-    &bytes[0..len.min(bytes.len())]
+    bytes.get(..len).unwrap_or(bytes)
 }
 
 impl Span {
