@@ -12,3 +12,4 @@ pub mod Endings
 pub mod Turns
 pub mod OneField
 pub mod Finished
+pub mod LabelSearch

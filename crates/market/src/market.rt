@@ -5,6 +5,7 @@ ghost use Rattle.market.specs.Rows.{traders_in, all_fit};
 use crate::rows::Numbers;
 
 mod excess;
+mod good;
 mod make;
 mod parts;
 
