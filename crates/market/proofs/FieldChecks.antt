@@ -1,7 +1,7 @@
 -- What reading a field answers, by the first check that fails.
-use Rattle.std.proofs.Common.{◌≡◌, ℕ, ◌+◌, ◌-◌, ◌<◌, ◌≤◌, true, false, ◌&&◌, List, [], ◌∷◌, length, take, drop, Ok, Err, Result, sym, refl, ap, ◌∙◌, arith}
+use Rattle.std.proofs.Common.{◌≡◌, ℕ, ◌+◌, ◌-◌, ◌≤◌, true, false, ◌&&◌, List, [], ◌∷◌, length, take, drop, Ok, Err, Result, sym, refl, ap, ◌∙◌, arith}
 use Rattle.std.proofs.lemmas.List.{take_rest, length-drop}
-use Rattle.std.proofs.lemmas.Bool.{le-leb, lt-leb}
+use Rattle.std.proofs.lemmas.Bool.{le-leb}
 use Rattle.std.specs.List.{list_all}
 use Rattle.layout.specs.Layout.{printing}
 use Rattle.mesh.specs.Refusals.{Told}
@@ -12,10 +12,6 @@ abbrev Answer : Type 0
 Answer = Result (ℕ × List ℕ × ℕ) Told
 
 module _ (d : Due) (bytes : List ℕ) (place : ℕ) where
-  pub body-cut : 3 ≤ length bytes → tag_due d (tag_of bytes) ≡ true → length_fits d (length_of bytes) ≡ true → length bytes < 3 + length_of bytes
-      → ◌≡◌ {A = Answer} (Err (21, place ∷ [])) (field_for d bytes place)
-  body-cut head tag size short = rw (le-leb 3 (length bytes) head, tag, size, lt-leb (3 + length_of bytes) (length bytes) short)
-
   pub value-off : 3 ≤ length bytes → tag_due d (tag_of bytes) ≡ true → length_fits d (length_of bytes) ≡ true → 3 + length_of bytes ≤ length bytes
       → value_fits d (body_of bytes) ≡ false → ◌≡◌ {A = Answer} (Err (24, place ∷ [])) (field_for d bytes place)
   value-off head tag size whole off = rw (le-leb 3 (length bytes) head, tag, size, le-leb (3 + length_of bytes) (length bytes) whole, off)

@@ -1,4 +1,5 @@
 pub mod Worth
+pub mod Spent
 pub mod FieldChecks
 pub mod Words
 pub mod NameParts

@@ -1,4 +1,4 @@
-use Rattle.std.proofs.Common.{◌<◌, length, get_or, drop, sym, refl, ap, ◌∙◌, arith, rules}
+use Rattle.std.proofs.Common.{◌<◌, length, get_or, drop, sym, refl, ap, ◌∙◌, arith}
 use Rattle.std.proofs.lemmas.Result.{err_from_is_err_and}
 use Rattle.std.proofs.lemmas.Bool.{eqb-true, eqb-false}
 use Rattle.layout.specs.Faults.{length_of}
@@ -24,9 +24,6 @@ overflow_add-end-2 c =
     let told = arm-told (due_of c.due.result) (due_in c.args.numbers.now) (drop c.args.at file) c.args.at c.in_ok-field.field c.in_ok-field.field c.in_ok-field.ensures c.due.ensures refl in
     let inside = field-within file c.args.at c.args.numbers.now c.requires.held f.1 f.2 f.0 told in
     omega (arith, inside.1, ap length c.body.ensures)
-
-pub add_name-requires : goal.add_name-requires
-add_name-requires c = (search rules, search rules)
 
 pub of-trader-requires : goal.of-trader-requires
 of-trader-requires c =

@@ -1,8 +1,8 @@
-use Rattle.std.proofs.Common.{arith}
+use Rattle.std.proofs.Common.{◌≤◌, ℕ, get_or, arith, rules}
 use Rattle.market.proofs.Words.{written}
 use Rattle.market.proofs.rows.Trader.of.Goals as goal
 
 pub returns : goal.returns
 returns c =
-    written c.args.body.now _ _ c.args.goods c.requires.0 c.requires.1 (λ k. omega (arith, c.type_inv.body k))
-    c.split_at.ensures.front c.split_at.ensures.back _ c.amounts-owns.ensures c.amounts-weighs.ensures
+    let bytes : (i : ℕ) → get_or c.args.body.now i 0 ≤ 255 = λ i. omega (arith, c.type_inv.body i) in
+    search (rules, written, bytes)
