@@ -1,3 +1,2 @@
 pub mod Names
-pub mod Spaced
-pub mod Rows
+pub mod OneMore

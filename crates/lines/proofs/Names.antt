@@ -6,13 +6,12 @@ use Rattle.lines.specs.Lines.{good_text}
 use Rattle.std.proofs.lemmas.List.{take_more}
 use Rattle.std.proofs.lemmas.Str.{encodes-append, encodes-IsAscii}
 
--- The step of a loop over the bytes.
-pub encodes_more : (bs : List ℕ) (i : ℕ) {before after : List ℕ} → i < length bs
-    → before ≡ encodes (take i bs) → after ≡ before ++ encode (get_or bs i 0) → after ≡ encodes (take (i + 1) bs)
-encodes_more bs i h old new =
+-- One byte more, at the end.
+pub encodes_more : (bs : List ℕ) (i : ℕ) → i < length bs → encodes (take i bs) ++ encode (get_or bs i 0) ≡ encodes (take (i + 1) bs)
+encodes_more bs i low =
     let b = get_or bs i 0 in
-    new ∙ ap (λ t. t ++ encode b) old ∙ ap (λ t. encodes (take i bs) ++ t) (sym (append-nil (encode b)))
-    ∙ sym (encodes-append (take i bs) (b ∷ [])) ∙ ap encodes (sym (take_more bs i 0 h))
+    ap (λ t. encodes (take i bs) ++ t) (sym (append-nil (encode b)))
+    ∙ sym (encodes-append (take i bs) (b ∷ [])) ∙ ap encodes (sym (take_more bs i 0 low))
 
 -- A name of bytes below 128 stands in the line as it is.
 pub plain-name : {E : Type 0} (r : Result (String Global) E) (j : ℕ) (name : List ℕ) (owned : ℕ) → IsAscii name

@@ -4,6 +4,8 @@ use Rattle.std.specs.List.{flat_map}
 use Rattle.std.specs.Option.{unwrap_or}
 use Rattle.std.specs.Fmt.{signed_decimal}
 use Rattle.std.specs.declared.alloc.Global.{Global}
+use Rattle.std.specs.declared.io.ErrorKind.{ErrorKind}
+use Rattle.std.specs.declared.io.ErrorKind.TheVariants.{OutOfMemory, InvalidInput}
 use Rattle.mesh.specs.Points.{goods_of, mesh_of, prices_of}
 use Rattle.mesh.specs.Refusals.{Told, told, carried_by}
 use Rattle.mesh.specs.declared.point.PricePoint.{PricePoint}
@@ -63,3 +65,8 @@ abbrev pub PointLine : Market → PricePoint → Result (String Global) LineErro
 PointLine m p (Ok s) = (goods_of p ≡ m.numbers.goods) × (string_bytes s ≡ line_at m p)
 PointLine m p (Err Memory) = goods_of p ≡ m.numbers.goods
 PointLine m p (Err (Refused e)) = (goods_of p ≢ m.numbers.goods) × (told e ≡ (3, []))
+
+-- How a program is told that there is no line.
+abbrev pub kind_of : LineError → ErrorKind
+kind_of Memory = OutOfMemory
+kind_of (Refused e) = InvalidInput

@@ -1,5 +1,7 @@
 // Why there is no line.
 ghost use Rattle.std.specs.Prelude.{◌≡◌};
+ghost use Rattle.std.specs.IoError.{error_kind};
+ghost use Rattle.lines.specs.Lines.{kind_of};
 ghost use Rattle.lines.specs.declared.errors.LineError.TheVariants.{Memory, Refused};
 
 use mesh::refusal::Refusal;
@@ -7,7 +9,7 @@ use std::alloc::AllocError;
 use std::io;
 use std::io::ErrorKind;
 
-#[derive(Clone, Copy)]
+#[derive(Clone, Copy, Debug, PartialEq, Eq)]
 pub enum LineError {
     Memory,
     Refused(Refusal),
@@ -31,6 +33,8 @@ impl From<Refusal> for LineError {
 
 // For a program that prints lines.
 impl From<LineError> for io::Error {
+    ghost from_gives = { λ line e. error_kind e ≡ kind_of line };
+
     fn from(error: LineError) -> io::Error {
         match error {
             LineError::Memory => io::Error::from(ErrorKind::OutOfMemory),

@@ -4,6 +4,7 @@
 mod errors;
 mod heads;
 mod points;
+mod spaced;
 mod walks;
 
 pub use errors::LineError;

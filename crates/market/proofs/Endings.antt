@@ -1,5 +1,5 @@
 -- The end of reading: the file of an economy, and what its numbers keep to.
-use Rattle.std.proofs.Common.{◌≡◌, ℕ, ◌<◌, ◌≤◌, true, List, length, Ok, Err, Result, sym, ap, ◌∙◌, subst, arith, MatchResult}
+use Rattle.std.proofs.Common.{◌≡◌, ℕ, ◌<◌, ◌≤◌, true, List, length, take, Ok, Err, Result, sym, ap, ◌∙◌, subst, arith, MatchResult}
 use Rattle.std.proofs.lemmas.List.{take_all}
 use Rattle.std.proofs.lemmas.Bool.{and_parts, and_from, leb-true, le-leb}
 use Rattle.mesh.specs.Refusals.{told}
@@ -18,13 +18,13 @@ use Rattle.market.proofs.Standing.{names-many, traders-many, sound-trading, by-s
 
 module _ (file : List ℕ) (at : ℕ) (n : Numbers) (held : Held file at n) where
   -- After a trader the goods and the sum are known.
-  goods-known : 0 < n.traders → (0 < n.goods) × (0 < n.sum)
+  goods-known : 0 < n.filled → (0 < n.goods) × (0 < n.sum)
   goods-known some =
       by-stage file at n held ((0 < n.goods) × (0 < n.sum)) (λ none. absurd (omega (arith, some, held.no_sum (held.no_goods none).1)))
       (λ _ none. absurd (omega (arith, some, held.no_sum none))) (λ a b. (a, b))
 
   -- At the end of the file, after a trader.
-  pub held_whole : 0 < n.traders → at ≡ length file → WellFormed (economy_of file n) × (file ≡ file_of (economy_of file n))
+  pub held_whole : 0 < n.filled → at ≡ length file → WellFormed (economy_of file n) × (file ≡ file_of (economy_of file n))
   held_whole some all =
       let known = goods-known some in
       let sound = sound-trading file at n held known.0 known.1 in (
@@ -33,18 +33,18 @@ module _ (file : List ℕ) (at : ℕ) (n : Numbers) (held : Held file at n) wher
           named = names-many file at n held ∙ sound.1;
           names = sound.2;
           sum = sound.3;
-          some = rw (traders-many file at n held) (and_from _ _ (le-leb 1 n.traders some) (le-leb n.traders 16 held.few_traders));
+          some = rw (traders-many file at n held) (and_from _ _ (le-leb 1 n.filled some) (le-leb n.filled 16 held.few_traders));
           traders = sound.4;
         },
         sym (take_all at file (omega arith)) ∙ held.bytes ∙ ap bytes_of (is-trading file n known.0 known.1),
       )
 
-  pub held-named : 0 < n.traders → n.named ≡ n.goods
+  pub held-named : 0 < n.filled → n.named ≡ n.goods
   held-named some = let known = goods-known some in (sound-trading file at n held known.0 known.1).1
 
-  pub held-market : 0 < n.traders
-      → ((2 ≤ n.goods) × (n.goods ≤ 8)) × ((1 ≤ n.sum) × (n.sum ≤ 1000)) × ((1 ≤ n.traders) × (n.traders ≤ 16))
-      × (all_fit n.goods n.sum (traders_in n.goods n.traders n.endowments n.weights) ≡ true)
+  pub held-market : 0 < n.filled
+      → ((2 ≤ n.goods) × (n.goods ≤ 8)) × ((1 ≤ n.sum) × (n.sum ≤ 1000)) × ((1 ≤ n.filled) × (n.filled ≤ 16))
+      × (all_fit n.goods n.sum (traders_in n.goods (take n.filled n.traders)) ≡ true)
   held-market some =
       let known = goods-known some in
       let sound = sound-trading file at n held known.0 known.1 in

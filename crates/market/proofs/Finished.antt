@@ -14,12 +14,12 @@ use Rattle.market.proofs.Endings.{held_whole, held-named, held-market, reads_all
 pub end-tells : (t a l : ℕ) → true ≡ (ltb 0 t && eqb a l) → (0 < t) × (a ≡ l)
 end-tells t a l e = let both = and_parts _ _ (sym e) in (ltb-true 0 t both.0, eqb-true a l both.1)
 
-module _ (file : List ℕ) (at : ℕ) (n : Numbers) (held : Held file at n) (some : 0 < n.traders) where
+module _ (file : List ℕ) (at : ℕ) (n : Numbers) (held : Held file at n) (some : 0 < n.filled) where
   -- What a market asks of its numbers.
   pub market-numbers : MarketNumbers n
   market-numbers =
       let h = held-market file at n held some in
-      (h.0, h.1, h.2, (held-named file at n held some, held.names_room), (held.owns_room, held.weighs_room), h.3)
+      (h.0, h.1, h.2, (held-named file at n held some, held.names_room), held.traders_room, h.3)
 
   module _ (all : at ≡ length file) (m : Market) (is : m.numbers ≡ n) where
     -- Everything is as the market says.

@@ -1,5 +1,5 @@
 pub mod Worth
-pub mod Parts
+pub mod Spent
 pub mod FieldChecks
 pub mod Words
 pub mod NameParts
@@ -13,3 +13,4 @@ pub mod Endings
 pub mod Turns
 pub mod OneField
 pub mod Finished
+pub mod LabelSearch

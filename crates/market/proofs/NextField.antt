@@ -64,7 +64,7 @@ module _ (file : List ℕ) (at : ℕ) (n : Numbers) (held : Held file at n) (bod
   name-room e = let good = good-field 2 e in omega (arith, (name-turn n (due_in n) good.tag (turn n)).2, goods-few file at n held)
 
   pub trader-room : ◌≡◌ {A = Answer} (Ok (4, body, place)) (field_for (due_in n) (drop at file) at)
-      → (n.traders < 16) × (length body ≡ 4 * n.goods)
+      → (n.filled < 16) × (length body ≡ 4 * n.goods)
   trader-room e =
       let good = good-field 4 e in
       let at_turn = trader-turn n (due_in n) good.tag (turn n) in

@@ -1,6 +1,6 @@
 -- What reading one field comes to, from what its parts promise.
-use Rattle.std.proofs.Common.{◌≡◌, ℕ, ◌+◌, ◌-◌, ◌*◌, ◌<◌, List, ◌++◌, length, get_or, take, drop, Ok, Err, sym, ap, ◌∙◌, subst, arith}
-use Rattle.std.proofs.lemmas.List.{take-append-drop, take_rest, length-drop, get_or-drop}
+use Rattle.std.proofs.Common.{◌≡◌, ℕ, ◌+◌, ◌<◌, List, length, get_or, take, drop, Ok, Err, sym, ap, ◌∙◌, subst, arith}
+use Rattle.std.proofs.lemmas.List.{get_or-drop}
 use Rattle.labelling.specs.Bytes.{Bytes, take-bytes}
 use Rattle.mesh.specs.Refusals.{Told}
 use Rattle.layout.specs.Faults.{Due}
@@ -23,15 +23,6 @@ pub moved_on : (file : List ℕ) (at : ℕ) (body b : List ℕ) (m n : Numbers) 
     → (at < at + 3 + length b) × Held file (at + 3 + length b) m
 moved_on file at body b m n e is held =
     (omega arith, subst (λ x. Held file (at + 3 + length b) x) (sym is) (subst (λ x. Held file (at + 3 + length x) n) (sym e) held))
-
--- A trader's body in two halves, as the code cuts it.
-pub halves : (body xs ys : List ℕ) (n : ℕ) → xs ≡ take (n - 0) body → ys ≡ take (length body - n) (drop n body) → body ≡ xs ++ ys
-halves body xs ys n e f =
-    let all : n - 0 ≡ n = omega arith in
-    sym (take-append-drop n body) ∙ ap (λ x. x ++ drop n body) (sym (e ∙ ap (λ k. take k body) all)) ∙ ap (λ y. xs ++ y) (sym (f ∙ take_rest body n))
-
-pub second-half : (body : List ℕ) (g : ℕ) → length body ≡ 4 * g → length (take (length body - 2 * g) (drop (2 * g) body)) ≡ 2 * g
-second-half body g e = ap length (take_rest body (2 * g)) ∙ length-drop (2 * g) body ∙ omega arith
 
 -- The bytes of a body are bytes of the file.
 pub body_bytes : (file : List ℕ) (at n i : ℕ) → Bytes file → get_or (take n (drop 3 (drop at file))) i 0 < 256

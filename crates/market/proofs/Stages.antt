@@ -2,7 +2,7 @@
 --   is-empty, is-naming, is-trading    what the numbers say, at each of the three stages
 --   Turn, turn                         what the numbers are like where a field is due
 --   goods-turn, name-turn, ..          the same, by the tag that is due
-use Rattle.std.proofs.Common.{◌≡◌, ℕ, ◌*◌, ◌<◌, ◌≤◌, Bool, true, false, cond, eqb, ltb, List, refl, arith}
+use Rattle.std.proofs.Common.{◌≡◌, ℕ, ◌*◌, ◌<◌, ◌≤◌, Bool, true, false, cond, eqb, ltb, List, take, refl, arith}
 use Rattle.std.proofs.lemmas.Bool.{both_ways, and_parts, leb-true, eqb-true, eqb-false, eq-eqb, ne_eqb, ltb-true, ltb-false}
 use Rattle.layout.specs.Faults.{empty, naming, trading, Due, goods_due, name_due, sum_due, trader_due, nothing_due, tag_due, length_fits}
 use Rattle.market.specs.Rows.{traders_in, names_in}
@@ -20,20 +20,20 @@ module _ (file : List ℕ) (n : Numbers) where
 
   pub is-trading : 0 < n.goods → 0 < n.sum
       → beginning_of file n
-      ≡ trading n.goods (names_in file n.named n.names) n.sum (traders_in n.goods n.traders n.endowments n.weights)
+      ≡ trading n.goods (names_in file n.named n.names) n.sum (traders_in n.goods (take n.filled n.traders))
   is-trading some more = rw (ne_eqb n.goods 0 (λ z. omega arith), ne_eqb n.sum 0 (λ z. omega arith))
 
 abbrev pub Turn : Numbers → Due → Type 0
 Turn n goods_due = n.goods ≡ 0
 Turn n name_due = (0 < n.goods) × (n.named < n.goods)
 Turn n sum_due = (0 < n.goods) × (n.goods ≤ n.named) × (n.sum ≡ 0)
-Turn n (trader_due g S) = (g ≡ n.goods) × (S ≡ n.sum) × (0 < n.goods) × (0 < n.sum) × (n.traders < 16)
+Turn n (trader_due g S) = (g ≡ n.goods) × (S ≡ n.sum) × (0 < n.goods) × (0 < n.sum) × (n.filled < 16)
 Turn n nothing_due = Unit {0}
 
 pub turn : (n : Numbers) → Turn n (due_in n)
-turn n = go (eqb n.goods 0) (ltb n.named n.goods) (eqb n.sum 0) (ltb n.traders 16) refl refl refl refl
+turn n = go (eqb n.goods 0) (ltb n.named n.goods) (eqb n.sum 0) (ltb n.filled 16) refl refl refl refl
   where
-    go : (a b c d : Bool) → eqb n.goods 0 ≡ a → ltb n.named n.goods ≡ b → eqb n.sum 0 ≡ c → ltb n.traders 16 ≡ d
+    go : (a b c d : Bool) → eqb n.goods 0 ≡ a → ltb n.named n.goods ≡ b → eqb n.sum 0 ≡ c → ltb n.filled 16 ≡ d
         → Turn n (cond a goods_due (cond b name_due (cond c sum_due (cond d (trader_due n.goods n.sum) nothing_due))))
     go true b c d ha hb hc hd = eqb-true _ _ ha
     go false true c d ha hb hc hd = (omega (arith, eqb-false _ _ ha), ltb-true _ _ hb)
@@ -64,7 +64,7 @@ sum-turn n (trader_due g S) e t = absurd (omega arith)
 sum-turn n nothing_due e t = absurd (omega arith)
 
 pub trader-turn : (n : Numbers) (d : Due) → 4 ≡ due_tag d → Turn n d
-    → (d ≡ trader_due n.goods n.sum) × (0 < n.goods) × (0 < n.sum) × (n.traders < 16)
+    → (d ≡ trader_due n.goods n.sum) × (0 < n.goods) × (0 < n.sum) × (n.filled < 16)
 trader-turn n goods_due e t = absurd (omega arith)
 trader-turn n name_due e t = absurd (omega arith)
 trader-turn n sum_due e t = absurd (omega arith)

@@ -3,7 +3,7 @@
 --   sound-naming, sound-trading    what is known of the numbers at each stage
 --   held-due, held-ended           the field that is due, and whether the file has ended
 --   held-fault                     a refused field is the fault of the file
-use Rattle.std.proofs.Common.{◌≡◌, ℕ, ◌<◌, ◌≤◌, true, false, ◌&&◌, eqb, ltb, List, [], ◌∷◌, ◌++◌, length, drop, Err, sym, refl, ap, ◌∙◌, subst, inl, inr, arith, lit≤}
+use Rattle.std.proofs.Common.{◌≡◌, ℕ, ◌<◌, ◌≤◌, true, false, ◌&&◌, eqb, ltb, List, [], ◌∷◌, ◌++◌, length, take, drop, Err, sym, refl, ap, ◌∙◌, subst, inl, inr, arith, lit≤}
 use Rattle.std.specs.List.{AllByRecursion}
 use Rattle.std.proofs.lemmas.List.{length-map, length-take-le, length-drop, take-append-drop}
 use Rattle.std.proofs.lemmas.Bool.{and_parts, leb-true, eq-eqb, ne_eqb, le-ltb, cases_eq}
@@ -15,7 +15,6 @@ use Rattle.layout.specs.Faults.{naming, trading, bytes_of, Sound, due, ended, fl
 use Rattle.market.specs.Rows.{traders_in, names_in}
 use Rattle.market.specs.Fields.{field_for}
 use Rattle.market.specs.declared.rows.Numbers.{Numbers}
-use Rattle.market.specs.TraderRows.{rows-count}
 use Rattle.market.specs.Adding.{due_in, unsaid}
 use Rattle.market.specs.Held.{beginning_of, Held}
 use Rattle.market.proofs.FieldTells.{Answer, field-refused}
@@ -27,8 +26,7 @@ held_start file = record {
   bytes = refl;
   sound = tt;
   names_room = refl;
-  owns_room = refl;
-  weighs_room = refl;
+  traders_room = refl;
   few_names = lit≤ tt;
   few_traders = lit≤ tt;
   no_goods = λ z. (refl, refl);
@@ -40,10 +38,8 @@ module _ (file : List ℕ) (at : ℕ) (n : Numbers) (held : Held file at n) wher
   pub names-many : length (names_in file n.named n.names) ≡ n.named
   names-many = rw length-map (length-take-le n.named n.names (omega (arith, held.few_names, held.names_room)))
 
-  pub traders-many : length (traders_in n.goods n.traders n.endowments n.weights) ≡ n.traders
-  traders-many =
-      rows-count n.goods n.traders n.endowments n.weights (omega (arith, held.few_traders, held.owns_room))
-      (omega (arith, held.few_traders, held.weighs_room))
+  pub traders-many : length (traders_in n.goods (take n.filled n.traders)) ≡ n.filled
+  traders-many = rw length-map (length-take-le n.filled n.traders (omega (arith, held.few_traders, held.traders_room)))
 
   pub sound-naming : 0 < n.goods → n.sum ≡ 0
       → (fit_goods n.goods ≡ true) × (n.named ≤ n.goods) × AllByRecursion NameFits (names_in file n.named n.names)
@@ -53,9 +49,9 @@ module _ (file : List ℕ) (at : ℕ) (n : Numbers) (held : Held file at n) wher
 
   pub sound-trading : 0 < n.goods → 0 < n.sum
       → (fit_goods n.goods ≡ true) × (n.named ≡ n.goods) × AllByRecursion NameFits (names_in file n.named n.names) × (fit_sum n.sum ≡ true)
-      × AllByRecursion (TraderFits n.goods n.sum) (traders_in n.goods n.traders n.endowments n.weights)
+      × AllByRecursion (TraderFits n.goods n.sum) (traders_in n.goods (take n.filled n.traders))
   sound-trading some more =
-      let sound : Sound (trading n.goods (names_in file n.named n.names) n.sum (traders_in n.goods n.traders n.endowments n.weights)) =
+      let sound : Sound (trading n.goods (names_in file n.named n.names) n.sum (traders_in n.goods (take n.filled n.traders))) =
       subst Sound (is-trading file n some more) held.sound
       in
       (sound.0, sym names-many ∙ sound.1, sound.2, sound.3, sound.5)
@@ -90,12 +86,12 @@ module _ (file : List ℕ) (at : ℕ) (n : Numbers) (held : Held file at n) wher
       let named : ltb n.named n.goods ≡ false = le-ltb n.named n.goods (omega (arith, (sound-trading some more).1)) in
       rw (ne_eqb n.goods 0 (λ z. omega arith), ne_eqb n.sum 0 (λ z. omega arith), traders-many, named))
 
-  pub held-ended : ended (beginning_of file n) (drop at file) ≡ (ltb 0 n.traders && eqb at (length file))
+  pub held-ended : ended (beginning_of file n) (drop at file) ≡ (ltb 0 n.filled && eqb at (length file))
   held-ended =
-      by-stage (ended (beginning_of file n) (drop at file) ≡ (ltb 0 n.traders && eqb at (length file)))
+      by-stage (ended (beginning_of file n) (drop at file) ≡ (ltb 0 n.filled && eqb at (length file)))
       (λ none. rw (is-empty file n none, held.no_sum (held.no_goods none).1))
       (λ some none. rw (is-naming file n some none, held.no_sum none))
-      (λ some more. rw (is-trading file n some more, traders-many) (ap (λ b. ltb 0 n.traders && b) same_end))
+      (λ some more. rw (is-trading file n some more, traders-many) (ap (λ b. ltb 0 n.filled && b) same_end))
     where
       same_end : eqb (length (drop at file)) 0 ≡ eqb at (length file)
       same_end = let h = held.within in rw length-drop (grind (arith, nat_tests))
@@ -107,7 +103,7 @@ module _ (file : List ℕ) (at : ℕ) (n : Numbers) (held : Held file at n) wher
   place_is = sym (ap length held.bytes) ∙ length-take-le at file held.within
 
   -- A refused field is the fault of the file, if the file has not ended.
-  pub held-fault : (ltb 0 n.traders && eqb at (length file)) ≡ false → (t : Told) → ◌≡◌ {A = Answer} (Err t) (field_for (due_in n) (drop at file) at)
+  pub held-fault : (ltb 0 n.filled && eqb at (length file)) ≡ false → (t : Told) → ◌≡◌ {A = Answer} (Err t) (field_for (due_in n) (drop at file) at)
       → FieldFault file t
   held-fault on t e =
       let told-so = field-refused (due_in n) (drop at file) at t e in

@@ -3,22 +3,20 @@
 --   trader-off                                      weights that do not add up are the fault of the file
 -- What else a reader cites is passed on from the files below.
 use Rattle.std.proofs.Common.{◌≡◌, ℕ, ◌+◌, ◌-◌, ◌*◌, ◌<◌, ◌≤◌, true, false, eqb, ◌≢◌, List, [], ◌∷◌, ◌++◌, map, length, get_or, take, drop, set, Ok, sum, sym, ap, ◌∙◌, subst, ⊎_elim, arith}
-use Rattle.std.specs.List.{flat_map}
-use Rattle.std.proofs.lemmas.List.{length-set, length_push, length-take-le, take-set, take_more_set, take_all, take-append-le, get_or-set_same, get_or-set_other, drop_at, map_push}
+use Rattle.std.proofs.lemmas.List.{length-set, length_push, length-take-le, take_more_set, take_all, take-append-le, get_or-set_same, get_or-set_other, drop_at, map_push}
 use Rattle.std.proofs.lemmas.Bool.{and_parts, and_right, leb-true, eqb-true, ne_eqb, cases_lt}
 use Rattle.std.proofs.ByRecursion.{All-push}
 use Rattle.mesh.specs.Range.{fit_goods}
-use Rattle.trade.specs.Trade.{Trader}
+use Rattle.trade.specs.Trade as trade
 use Rattle.layout.specs.Layout.{two, field, NameFits, fit_sum, TraderFits}
 use Rattle.layout.specs.Faults.{empty, naming, trading, bytes_of, Sound, due, values, length_fits, value_fits, weights_fit, check, flaw, FieldFault}
 use Rattle.layout.proofs.Steps.{one_name, the_sum, one-trader, all-print, values-both}
-use Rattle.market.specs.Rows.{trader_at, traders_in, names_in, short, cut}
+use Rattle.market.specs.Rows.{trader_in, traders_in, names_in, cut}
 use Rattle.market.specs.Fields.{field_for}
 use Rattle.market.specs.declared.rows.Numbers.{Numbers}
-use Rattle.market.specs.declared.rows.Amounts.{Amounts}
+use Rattle.market.specs.declared.rows.Trader.{Trader}
 use Rattle.market.specs.declared.rows.Span.{Span}
-use Rattle.market.specs.TraderRows.{rows_more, blank}
-use Rattle.market.specs.Adding.{due_in, with_goods, with_name, with_sum, with_trader}
+use Rattle.market.specs.Adding.{Written, due_in, with_goods, with_name, with_sum, with_trader}
 use Rattle.market.specs.Held.{beginning_of, Held}
 use Rattle.market.specs.Reading.{economy_of, name_at, span_of, Placed}
 use Rattle.market.proofs.Stages.{is-empty, is-naming, is-trading, turn, goods-turn, name-turn, sum-turn, trader-turn}
@@ -30,13 +28,6 @@ pub use Rattle.market.proofs.FieldTells.{Answer, field_told, early-passes, early
 pub use Rattle.market.proofs.Standing.{held_start, goods-few, held-due, held-ended, held-fault}
 pub use Rattle.market.proofs.NextField.{field-within, name-room, trader-room}
 pub use Rattle.market.proofs.Endings.{held_whole, held-market, reads_all}
-
--- One row more, in both tables.
-rows-set : (g k : ℕ) (es ws : List Amounts) (e w : Amounts) → k < length es → k < length ws
-    → traders_in g (k + 1) (set es k e) (set ws k w) ≡ traders_in g k es ws ++ trader_at g e w ∷ []
-rows-set g k es ws e w le lw =
-    rows_more g k (set es k e) (set ws k w) blank blank (rw length-set le) (rw length-set lw)
-    ∙ rw (take-set es k e, take-set ws k w, get_or-set_same es k e blank le, get_or-set_same ws k w blank lw)
 
 -- One name more is marked at its place, if that is where the names before it end.
 placed-more : (file : List ℕ) (n : Numbers) (s : Span) (body : List ℕ) → Placed file n → n.named < length n.names
@@ -84,8 +75,7 @@ module _ (file : List ℕ) (at : ℕ) (n : Numbers) (held : Held file at n) (bod
             ∙ ap bytes_of (sym is);
         sound = subst Sound (sym is) (fit, omega arith, tt);
         names_room = held.names_room;
-        owns_room = held.owns_room;
-        weighs_room = held.weighs_room;
+        traders_room = held.traders_room;
         few_names = held.few_names;
         few_traders = held.few_traders;
         no_goods = λ z. nothing;
@@ -124,8 +114,7 @@ module _ (file : List ℕ) (at : ℕ) (n : Numbers) (held : Held file at n) (bod
             ∙ ap bytes_of (sym is);
         sound = subst Sound (sym is) (sound.0, rw length_push many, All-push NameFits old body sound.2 fits);
         names_room = length-set n.names n.named span ∙ held.names_room;
-        owns_room = held.owns_room;
-        weighs_room = held.weighs_room;
+        traders_room = held.traders_room;
         few_names = omega (arith, name-room file at n held body place e);
         few_traders = held.few_traders;
         no_goods = λ z. absurd (omega (arith, some, z));
@@ -150,7 +139,7 @@ module _ (file : List ℕ) (at : ℕ) (n : Numbers) (held : Held file at n) (bod
       let more : 1 ≤ S = leb-true 1 S (and_parts _ _ fit).0 in
       let is : beginning_of file (with_sum n S) ≡ trading n.goods old S [] =
       is-trading file (with_sum n S) some (omega arith)
-      ∙ ap (λ k. trading n.goods old S (traders_in n.goods k n.endowments n.weights)) (held.no_sum none)
+      ∙ ap (λ k. trading n.goods old S (traders_in n.goods (take k n.traders))) (held.no_sum none)
       in
       record {
         within = good.within;
@@ -160,8 +149,7 @@ module _ (file : List ℕ) (at : ℕ) (n : Numbers) (held : Held file at n) (bod
             ∙ ap bytes_of (sym is);
         sound = subst Sound (sym is) (sound.0, omega (arith, names-many file at n held, at_turn.2, sound.1), sound.2, fit, omega arith, tt);
         names_room = held.names_room;
-        owns_room = held.owns_room;
-        weighs_room = held.weighs_room;
+        traders_room = held.traders_room;
         few_names = held.few_names;
         few_traders = held.few_traders;
         no_goods = λ z. absurd (omega (arith, some, z));
@@ -169,11 +157,9 @@ module _ (file : List ℕ) (at : ℕ) (n : Numbers) (held : Held file at n) (bod
         placed = held.placed;
       }
 
-  module _ (e w : Amounts) (rows : body ≡ flat_map two (take n.goods e.of) ++ flat_map two (take n.goods w.of))
-      (owns-long : n.goods ≤ length e.of) (weighs-long : n.goods ≤ length w.of)
-      (owns-short : short (take n.goods e.of) ≡ true) (weighs-short : short (take n.goods w.of) ≡ true)
+  module _ (t : Trader) (written : Written body n.goods t) (few : n.goods ≤ 8)
       (told-so : ◌≡◌ {A = Answer} (Ok (4, body, place)) (field_for (due_in n) (drop at file) at)) where
-    pub held-trader : sum (take n.goods w.of) ≡ n.sum → Held file (at + 3 + length body) (with_trader n e w)
+    pub held-trader : sum (take n.goods t.weighs) ≡ n.sum → Held file (at + 3 + length body) (with_trader n t)
     held-trader adds =
         let good = good-field file at n held body place 4 told-so in
         let at_turn = trader-turn n (due_in n) good.tag (turn n) in
@@ -182,24 +168,29 @@ module _ (file : List ℕ) (at : ℕ) (n : Numbers) (held : Held file at n) (bod
         let sound = sound-trading file at n held some more in
         let g : ℕ = n.goods in
         let names : List (List ℕ) = names_in file n.named n.names in
-        let old : List Trader = traders_in g n.traders n.endowments n.weights in
-        let new : Trader = trader_at g e w in
-        let traders : traders_in g (n.traders + 1) (set n.endowments n.traders e) (set n.weights n.traders w) ≡ old ++ new ∷ [] =
-        rows-set g n.traders n.endowments n.weights e w (omega (arith, at_turn.3, held.owns_room)) (omega (arith, at_turn.3, held.weighs_room))
+        let old : List trade.Trader = traders_in g (take n.filled n.traders) in
+        let new : trade.Trader = trader_in g t in
+        let room : n.filled < length n.traders = omega (arith, at_turn.3, held.traders_room) in
+        let traders : traders_in g (take (n.filled + 1) (set n.traders n.filled t)) ≡ old ++ new ∷ [] =
+        ap (map (trader_in g)) (take_more_set n.traders n.filled t room) ∙ map_push (trader_in g) (take n.filled n.traders) t
         in
-        let is : beginning_of file (with_trader n e w) ≡ trading g names n.sum (old ++ new ∷ []) =
-        is-trading file (with_trader n e w) some more ∙ ap (trading g names n.sum) traders
+        let is : beginning_of file (with_trader n t) ≡ trading g names n.sum (old ++ new ∷ []) =
+        is-trading file (with_trader n t) some more ∙ ap (trading g names n.sum) traders
         in
         let fits : TraderFits g n.sum new = record {
-          fair = record { owned = length-take-le g e.of owns-long; weighed = length-take-le g w.of weighs-long; shares = adds };
-          owned = all_short (take g e.of) owns-short;
-          weighed = all_short (take g w.of) weighs-short;
+          fair = record {
+            owned = length-take-le g t.owns (omega (arith, few, written.owns_room));
+            weighed = length-take-le g t.weighs (omega (arith, few, written.weighs_room));
+            shares = adds;
+          };
+          owned = all_short (take g t.owns) written.owns_short;
+          weighed = all_short (take g t.weighs) written.weighs_short;
         } in
         record {
           within = good.within;
           bytes =
               said_more file at n held body place 4 good (trading g names n.sum old) (trading g names n.sum (old ++ new ∷ [])) (is-trading file n some more)
-              (one-trader g names n.sum old new ∙ ap (λ b. bytes_of (trading g names n.sum old) ++ field 4 b) (sym rows))
+              (one-trader g names n.sum old new ∙ ap (λ b. bytes_of (trading g names n.sum old) ++ field 4 b) (sym written.bytes))
               ∙ ap bytes_of (sym is);
           sound =
               subst Sound (sym is) (
@@ -211,8 +202,7 @@ module _ (file : List ℕ) (at : ℕ) (n : Numbers) (held : Held file at n) (bod
                 All-push (TraderFits g n.sum) old new sound.4 fits,
               );
           names_room = held.names_room;
-          owns_room = length-set n.endowments n.traders e ∙ held.owns_room;
-          weighs_room = length-set n.weights n.traders w ∙ held.weighs_room;
+          traders_room = length-set n.traders n.filled t ∙ held.traders_room;
           few_names = held.few_names;
           few_traders = omega (arith, at_turn.3);
           no_goods = λ z. absurd (omega (arith, some, z));
@@ -220,13 +210,13 @@ module _ (file : List ℕ) (at : ℕ) (n : Numbers) (held : Held file at n) (bod
           placed = held.placed;
         }
 
-    pub trader-off : (sum (take n.goods w.of) ≡ n.sum → ⊥) → FieldFault file (25, place ∷ [])
+    pub trader-off : (sum (take n.goods t.weighs) ≡ n.sum → ⊥) → FieldFault file (25, place ∷ [])
     trader-off off =
         let good = good-field file at n held body place 4 told-so in
         let at_turn = trader-turn n (due_in n) good.tag (turn n) in
-        let weighs : drop n.goods (values body) ≡ take n.goods w.of =
-        ap (λ b. drop n.goods (values b)) rows ∙ ap (drop n.goods) (values-both (take n.goods e.of) (take n.goods w.of))
-        ∙ drop_at (take n.goods e.of) (take n.goods w.of) n.goods (length-take-le n.goods e.of owns-long)
+        let weighs : drop n.goods (values body) ≡ take n.goods t.weighs =
+        ap (λ b. drop n.goods (values b)) written.bytes ∙ ap (drop n.goods) (values-both (take n.goods t.owns) (take n.goods t.weighs))
+        ∙ drop_at (take n.goods t.owns) (take n.goods t.weighs) n.goods (length-take-le n.goods t.owns (omega (arith, few, written.owns_room)))
         in
         let wrong : weights_fit (due_in n) body ≡ false =
         ap (λ d. weights_fit d body) at_turn.0 ∙ ap (λ ws. eqb (sum ws) n.sum) weighs ∙ ne_eqb _ _ off

@@ -1,5 +1,5 @@
 -- What reading one field answers.
-use Rattle.std.specs.Prelude.{ℕ, ◌+◌, cond, List, [], ◌∷◌, length, Ok, Err, Result, ◌==◌, nat_le}
+use Rattle.std.specs.Prelude.{ℕ, ◌+◌, cond, List, [], ◌∷◌, length, Ok, Err, Some, None, Option, Result, ◌==◌, nat_le}
 use Rattle.mesh.specs.Refusals.{Told}
 use Rattle.layout.specs.Faults as layout
 use Rattle.layout.specs.Faults.{tag_of, length_of, body_of, tag_due, length_fits, value_fits, check}
@@ -8,13 +8,13 @@ use Rattle.market.specs.declared.field.Due.TheVariants as due
 use Rattle.market.specs.declared.field.Field.{Field}
 use Rattle.market.specs.declared.field.Field.TheVariants as field
 
--- Which field is due.
-abbrev pub due_of : Due → layout.Due
-due_of due.Goods = layout.goods_due
-due_of due.Name = layout.name_due
-due_of due.Sum = layout.sum_due
-due_of (due.Trader g S) = layout.trader_due g S
-due_of due.Nothing = layout.nothing_due
+-- Which field is due, if any.
+abbrev pub due_of : Option Due → layout.Due
+due_of (Some due.Goods) = layout.goods_due
+due_of (Some due.Name) = layout.name_due
+due_of (Some due.Sum) = layout.sum_due
+due_of (Some (due.Trader g S)) = layout.trader_due g S
+due_of None = layout.nothing_due
 
 -- A field by its tag, its body, and the place of its tag byte.
 abbrev pub field_of : Field → ℕ × List ℕ × ℕ

@@ -11,7 +11,7 @@ abbrev pub beginning_of : List ℕ → Numbers → Beginning
 beginning_of file n =
     cond (n.goods == 0) empty
     (cond (n.sum == 0) (naming n.goods (names_in file n.named n.names))
-    (trading n.goods (names_in file n.named n.names) n.sum (traders_in n.goods n.traders n.endowments n.weights)))
+    (trading n.goods (names_in file n.named n.names) n.sum (traders_in n.goods (take n.filled n.traders))))
 
 pub record Held (file : List ℕ) (at : ℕ) (n : Numbers) : Type 0 where
   pub within : at ≤ length file
@@ -19,12 +19,11 @@ pub record Held (file : List ℕ) (at : ℕ) (n : Numbers) : Type 0 where
   pub sound : Sound (beginning_of file n)
   -- the tables have their full length, and are not overfull
   pub names_room : length n.names ≡ 8
-  pub owns_room : length n.endowments ≡ 16
-  pub weighs_room : length n.weights ≡ 16
+  pub traders_room : length n.traders ≡ 16
   pub few_names : n.named ≤ 8
-  pub few_traders : n.traders ≤ 16
+  pub few_traders : n.filled ≤ 16
   -- nothing is said before its turn
   pub no_goods : n.goods ≡ 0 → (n.named ≡ 0) × (n.sum ≡ 0)
-  pub no_sum : n.sum ≡ 0 → n.traders ≡ 0
+  pub no_sum : n.sum ≡ 0 → n.filled ≡ 0
   -- each name is marked at its place
   pub placed : Placed file n

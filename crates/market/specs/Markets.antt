@@ -1,5 +1,5 @@
 -- What a market means, and what its calls answer.
-use Rattle.std.specs.Prelude.{◌≡◌, ℕ, ◌<◌, ◌≤◌, true, cond, List, length, ℤ, Ok, Result, ◌==◌}
+use Rattle.std.specs.Prelude.{◌≡◌, ℕ, ◌<◌, ◌≤◌, true, cond, List, length, take, ℤ, Ok, Result, ◌==◌}
 use Rattle.mesh.specs.Points.{goods_of, prices_of}
 use Rattle.mesh.specs.Range.{between}
 use Rattle.mesh.specs.Refusals.{Told, insist}
@@ -8,10 +8,15 @@ use Rattle.labelling.specs.Labels.{Rule, Proper}
 use Rattle.trade.specs.Trade.{Trader, excess, owned_in_all, market_label, Labels}
 use Rattle.market.specs.Rows.{traders_in, all_fit}
 use Rattle.market.specs.declared.rows.Numbers.{Numbers}
+use Rattle.market.specs.declared.rows.Trader as row
 use Rattle.market.specs.declared.market.Market.{Market}
 
+-- The filled rows of the table of traders, and the traders in them.
+abbrev pub rows_of : Market → List row.Trader
+rows_of m = take m.numbers.filled m.numbers.traders
+
 abbrev pub traders_of : Market → List Trader
-traders_of m = traders_in m.numbers.goods m.numbers.traders m.numbers.endowments m.numbers.weights
+traders_of m = traders_in m.numbers.goods (rows_of m)
 
 -- The label of a price point; 0 where it has another number of goods.
 abbrev pub market_rule : Market → Rule
@@ -35,9 +40,9 @@ pub record LabelledBy (m : Market) (p : PricePoint) (l : ℕ) : Type 0 where
 -- Numbers of a market: in range, a name for each good, and every trader's weights add up.
 abbrev pub MarketNumbers : Numbers → Type 0
 MarketNumbers n =
-    ((2 ≤ n.goods) × (n.goods ≤ 8)) × ((1 ≤ n.sum) × (n.sum ≤ 1000)) × ((1 ≤ n.traders) × (n.traders ≤ 16))
-    × ((n.named ≡ n.goods) × (length n.names ≡ 8)) × ((length n.endowments ≡ 16) × (length n.weights ≡ 16))
-    × (all_fit n.goods n.sum (traders_in n.goods n.traders n.endowments n.weights) ≡ true)
+    ((2 ≤ n.goods) × (n.goods ≤ 8)) × ((1 ≤ n.sum) × (n.sum ≤ 1000)) × ((1 ≤ n.filled) × (n.filled ≤ 16))
+    × ((n.named ≡ n.goods) × (length n.names ≡ 8)) × (length n.traders ≡ 16)
+    × (all_fit n.goods n.sum (traders_in n.goods (take n.filled n.traders)) ≡ true)
 
 -- Somebody owns each good.
 abbrev pub AllOwned : Market → Type 0

@@ -15,7 +15,7 @@ economy_of file n = record {
   goods = n.goods;
   names = names_in file n.named n.names;
   sum = n.sum;
-  traders = traders_in n.goods n.traders n.endowments n.weights;
+  traders = traders_in n.goods (take n.filled n.traders);
 }
 
 -- The name of good j of an economy.

@@ -1,21 +1,16 @@
--- What the numbers of a market say: its traders, row by row of two tables, and where the names of its goods stand in a file.
+-- What the numbers of a market say: its traders, row by row of a table, and where the names of its goods stand in a file.
 use Rattle.std.specs.Prelude.{ℕ, Bool, true, ◌&&◌, List, [], ◌∷◌, map, length, take, drop, sum, ◌==◌, nat_lt}
 use Rattle.trade.specs.Trade.{Trader}
-use Rattle.market.specs.declared.rows.Amounts.{Amounts}
+use Rattle.market.specs.declared.rows.Trader as row
 use Rattle.market.specs.declared.rows.Span.{Span}
 
--- A trader of g goods from what it owns and how it weighs.
-abbrev pub trader_at : ℕ → Amounts → Amounts → Trader
-trader_at g e w = record { owns = take g e.of; weighs = take g w.of }
+-- The trader of g goods in a row: of each list the first g numbers.
+abbrev pub trader_in : ℕ → row.Trader → Trader
+trader_in g r = record { owns = take g r.owns; weighs = take g r.weighs }
 
-abbrev pub join_rows : ℕ → List Amounts → List Amounts → List Trader
-join_rows g [] ws = []
-join_rows g (e ∷ es) [] = []
-join_rows g (e ∷ es) (w ∷ ws) = trader_at g e w ∷ join_rows g es ws
-
--- The first n traders of the tables of endowments and of weights.
-abbrev pub traders_in : ℕ → ℕ → List Amounts → List Amounts → List Trader
-traders_in g n es ws = join_rows g (take n es) (take n ws)
+-- The traders in some rows.
+abbrev pub traders_in : ℕ → List row.Trader → List Trader
+traders_in g rows = map (trader_in g) rows
 
 -- Numbers of two bytes.
 abbrev pub short : List ℕ → Bool

@@ -14,12 +14,11 @@ pub enum Field<'f> {
     Trader(&'f [u8], usize),
 }
 
-// The field that is due. A trader's is known by the number of goods and the weight sum.
+// The field that is due, where one is. A trader's is known by the number of goods and the weight sum.
 #[derive(Clone, Copy)]
 pub enum Due {
     Goods,
     Name,
     Sum,
-    Trader(u8, u32),
-    Nothing,
+    Trader { goods: u8, sum: u32 },
 }

@@ -1,10 +1,11 @@
 // A market: numbers in which every trader's weights add up to the weight sum.
-ghost use Rattle.std.specs.Prelude.{◌≡◌, ◌≤◌, true, length};
+ghost use Rattle.std.specs.Prelude.{◌≡◌, ◌≤◌, true, length, take};
 ghost use Rattle.market.specs.Rows.{traders_in, all_fit};
 
 use crate::rows::Numbers;
 
 mod excess;
+mod good;
 mod make;
 mod parts;
 
@@ -13,8 +14,8 @@ pub struct Market {
     numbers: Numbers,
     ghost goods_fit: { (2 ≤ numbers.goods) × (numbers.goods ≤ 8) },
     ghost sum_fits: { (1 ≤ numbers.sum) × (numbers.sum ≤ 1000) },
-    ghost some_traders: { (1 ≤ numbers.traders) × (numbers.traders ≤ 16) },
+    ghost some_traders: { (1 ≤ numbers.filled) × (numbers.filled ≤ 16) },
     ghost all_named: { (numbers.named ≡ numbers.goods) × (length numbers.names ≡ 8) },
-    ghost rooms: { (length numbers.endowments ≡ 16) × (length numbers.weights ≡ 16) },
-    ghost shares: { all_fit numbers.goods numbers.sum (traders_in numbers.goods numbers.traders numbers.endowments numbers.weights) ≡ true },
+    ghost room: { length numbers.traders ≡ 16 },
+    ghost shares: { all_fit numbers.goods numbers.sum (traders_in numbers.goods (take numbers.filled numbers.traders)) ≡ true },
 }

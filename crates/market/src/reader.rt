@@ -7,13 +7,13 @@ ghost use Rattle.market.specs.Reading.{Reads};
 
 use crate::field::{Field, next_field};
 use crate::market::Market;
-use crate::rows::{Numbers, amounts};
+use crate::rows::{Numbers, Trader};
 use mesh::refusal::Refusal;
 
 // Reads the field that is due at a place, and answers the place after it.
 fn read_one(file: &[u8], at: usize, numbers: &mut Numbers) -> Result<usize, Refusal>
     requires held { Held file.now at numbers.old }
-    requires goes_on { (nat_lt 0 numbers.old.traders && at == length file.now) ≡ false }
+    requires goes_on { (nat_lt 0 numbers.old.filled && at == length file.now) ≡ false }
     ensures { MatchResult result (λ next. (at < next) × Held file.now next numbers.new) (λ e. FieldFault file.now (told e)) }
 {
     let field = next_field(file, at, numbers.due())?;
@@ -33,12 +33,11 @@ fn read_one(file: &[u8], at: usize, numbers: &mut Numbers) -> Result<usize, Refu
         }
         Field::Trader(body, place) => {
             let goods = numbers.goods;
-            let owns = amounts(&body[0..2 * goods], goods);
-            let weighs = amounts(&body[2 * goods..], goods);
-            if !weighs.adds_up_to(goods, numbers.sum) {
+            let trader = Trader::of(body, goods);
+            if !trader.adds_up_to(goods, numbers.sum) {
                 return Err(Refusal::WeightsOffSum(place));
             }
-            numbers.add_trader(owns, weighs);
+            numbers.add_trader(trader);
             Ok(end)
         }
     }
@@ -46,9 +45,9 @@ fn read_one(file: &[u8], at: usize, numbers: &mut Numbers) -> Result<usize, Refu
 
 // The end of a whole file: some trader was read, and no byte is left.
 fn ended(file: &[u8], at: usize, numbers: &Numbers) -> bool
-    ensures { result ≡ (nat_lt 0 numbers.now.traders && at == length file.now) }
+    ensures { result ≡ (nat_lt 0 numbers.now.filled && at == length file.now) }
 {
-    numbers.traders > 0 && at == file.len()
+    numbers.filled > 0 && at == file.len()
 }
 
 // Reads a whole file: the market that it says, or the refusal of its first fault.

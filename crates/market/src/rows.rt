@@ -2,12 +2,11 @@
 
 mod add;
 
-pub(crate) use add::amounts;
-
-// One trader's numbers, one for each good. The entries past the goods never matter.
+// A trader: how much it owns of each good, and how it weighs each. The entries past the goods never matter.
 #[derive(Clone, Copy)]
-pub(crate) struct Amounts {
-    pub(crate) of: [u16; 8],
+pub(crate) struct Trader {
+    pub(crate) owns: [u16; 8],
+    pub(crate) weighs: [u16; 8],
 }
 
 // A part of a file.
@@ -17,14 +16,13 @@ pub(crate) struct Span {
     pub(crate) len: usize,
 }
 
-// What the fields so far have said: no goods, or no sum, is 0. Endowments stand in one table and weights in another, a row for each trader.
+// What the fields so far have said: no goods, or no sum, is 0. So many rows of the table of traders are filled.
 #[derive(Clone, Copy)]
 pub(crate) struct Numbers {
     pub(crate) goods: usize,
     pub(crate) named: usize,
     pub(crate) names: [Span; 8],
     pub(crate) sum: u32,
-    pub(crate) traders: usize,
-    pub(crate) endowments: [Amounts; 16],
-    pub(crate) weights: [Amounts; 16],
+    pub(crate) filled: usize,
+    pub(crate) traders: [Trader; 16],
 }

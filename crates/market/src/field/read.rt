@@ -1,6 +1,7 @@
 // Reading one field.
-ghost use Rattle.std.specs.Prelude.{◌≡◌, ◌+◌, ◌*◌, drop, slice_index};
-ghost use Rattle.layout.specs.Faults.{tag_due, length_fits, value_fits, all_print};
+ghost use Rattle.std.specs.Prelude.{◌≡◌, Some, ◌+◌, ◌*◌, ◌<◌, drop, slice_index};
+ghost use Rattle.std.specs.List.{list_all};
+ghost use Rattle.layout.specs.Faults.{tag_due, length_fits, value_fits};
 ghost use Rattle.layout.specs.Layout.{printing};
 ghost use Rattle.mesh.specs.Refusals.{answered};
 ghost use Rattle.market.specs.Fields.{due_of, due_tag, field_of, field_for};
@@ -12,79 +13,70 @@ use mesh::refusal::Refusal;
 pub(crate) fn byte_at(bytes: &[u8], i: usize) -> u8
     ensures { result ≡ slice_index bytes.now i }
 {
-    if i < bytes.len() { bytes[i] } else { 0 }
+    bytes.get(i).copied().unwrap_or(0)
 }
 
 // A number of two bytes, the high one first.
 pub(crate) fn number_at(bytes: &[u8], i: usize) -> u16
+    requires { i < 16 }
     ensures { result ≡ 256 * slice_index bytes.now i + slice_index bytes.now (i + 1) }
 {
-    if i >= bytes.len() {
-        return 0;
-    }
-    u16::from(bytes[i]) * 256 + u16::from(byte_at(bytes, i + 1))
+    u16::from(byte_at(bytes, i)) * 256 + u16::from(byte_at(bytes, i + 1))
 }
 
 // The bytes from a place on; none past the end.
 pub(crate) fn bytes_from<'f>(bytes: &'f [u8], at: usize) -> &'f [u8]
     ensures { result.now ≡ drop at bytes.now }
 {
-    &bytes[at.min(bytes.len())..]
+    bytes.get(at..).unwrap_or(&[])
 }
 
 // A printing character of ASCII, or a blank.
 fn is_printing(b: u8) -> bool
     ensures { result ≡ printing b }
 {
-    0x20 <= b && b <= 0x7E
+    (0x20..=0x7E).contains(&b)
 }
 
 // Every byte is a printing character.
 fn prints(bytes: &[u8]) -> bool
-    ensures { result ≡ all_print bytes.now }
+    ensures { result ≡ list_all printing bytes.now }
 {
-    for b in bytes {
-        if !is_printing(*b) {
-            return false;
-        }
-    }
-    true
+    bytes.iter().all(|b| is_printing(*b))
 }
 
 impl Due {
     fn takes_tag(&self, tag: u8) -> bool
-        ensures { result ≡ tag_due (due_of self.now) tag }
+        ensures { result ≡ tag_due (due_of (Some self.now)) tag }
     {
         match self {
             Due::Goods => tag == 1,
             Due::Name => tag == 2,
             Due::Sum => tag == 3,
-            Due::Trader(_, _) => tag == 4,
-            Due::Nothing => false,
+            Due::Trader { .. } => tag == 4,
         }
     }
 
     fn takes_length(&self, len: usize) -> bool
-        ensures { result ≡ length_fits (due_of self.now) len }
+        ensures { result ≡ length_fits (due_of (Some self.now)) len }
     {
         match self {
             Due::Goods => len == 1,
-            Due::Name => 1 <= len && len <= 32,
+            Due::Name => (1..=32).contains(&len),
             Due::Sum => len == 2,
-            Due::Trader(goods, _) => len == 4 * (*goods as usize),
-            Due::Nothing => false,
+            Due::Trader { goods, .. } => len == 4 * usize::from(*goods),
         }
     }
 
+    #[tactic(auto, using(crate::proofs::FieldChecks::every_prints))]
     fn takes_value(&self, body: &[u8]) -> bool
-        ensures { result ≡ value_fits (due_of self.now) body.now }
+        ensures { result ≡ value_fits (due_of (Some self.now)) body.now }
     {
         match self {
-            Due::Goods => 2 <= byte_at(body, 0) && byte_at(body, 0) <= 8,
+            Due::Goods => (2..=8).contains(&byte_at(body, 0)),
             Due::Name => prints(body),
-            Due::Sum => 1 <= number_at(body, 0) && number_at(body, 0) <= 1000,
-            Due::Trader(_, _) => true,
-            Due::Nothing => true,
+            Due::Sum => (1..=1000).contains(&number_at(body, 0)),
+            Due::Trader { .. } => true,
         }
     }
 }
@@ -95,10 +87,10 @@ impl<'f> Field<'f> {
         ensures { result.now ≡ (field_of self.now).1 }
     {
         match self {
-            Field::Goods(body, _) => body,
-            Field::Name(body, _) => body,
-            Field::Sum(body, _) => body,
-            Field::Trader(body, _) => body,
+            Field::Goods(body, _)
+            | Field::Name(body, _)
+            | Field::Sum(body, _)
+            | Field::Trader(body, _) => body,
         }
     }
 
@@ -107,32 +99,32 @@ impl<'f> Field<'f> {
         ensures { result ≡ (field_of self.now).2 }
     {
         match self {
-            Field::Goods(_, place) => *place,
-            Field::Name(_, place) => *place,
-            Field::Sum(_, place) => *place,
-            Field::Trader(_, place) => *place,
+            Field::Goods(_, place)
+            | Field::Name(_, place)
+            | Field::Sum(_, place)
+            | Field::Trader(_, place) => *place,
         }
     }
 }
 
 // The field at the head of these bytes, which stand at a place of the file.
-fn field_in<'f>(bytes: &'f [u8], at: usize, due: Due) -> Result<Field<'f>, Refusal>
+#[tactic(auto, using(crate::proofs::FieldChecks::passed, crate::proofs::FieldChecks::failed))]
+fn field_in<'f>(bytes: &'f [u8], at: usize, due: Option<Due>) -> Result<Field<'f>, Refusal>
     ensures { answered field_of result ≡ field_for (due_of due) bytes.now at }
 {
     let [tag, high, low, rest @ ..] = bytes else {
         return Err(Refusal::Truncated(at));
     };
-    if !due.takes_tag(*tag) {
+    let Some(due) = due.filter(|due| due.takes_tag(*tag)) else {
         return Err(Refusal::TagNotDue(at));
-    }
-    let len = 256 * (*high as usize) + *low as usize;
+    };
+    let len = 256 * usize::from(*high) + usize::from(*low);
     if !due.takes_length(len) {
         return Err(Refusal::LengthWrong(at));
     }
-    if len > rest.len() {
+    let Some(body) = rest.get(..len) else {
         return Err(Refusal::Truncated(at));
-    }
-    let body = &rest[0..len];
+    };
     if !due.takes_value(body) {
         return Err(Refusal::ValueOutOfRange(at));
     }
@@ -140,14 +132,12 @@ fn field_in<'f>(bytes: &'f [u8], at: usize, due: Due) -> Result<Field<'f>, Refus
         Due::Goods => Ok(Field::Goods(body, at)),
         Due::Name => Ok(Field::Name(body, at)),
         Due::Sum => Ok(Field::Sum(body, at)),
-        Due::Trader(_, _) => Ok(Field::Trader(body, at)),
-        // no tag is due then, so that the field was refused before
-        Due::Nothing => Err(Refusal::TagNotDue(at)),
+        Due::Trader { .. } => Ok(Field::Trader(body, at)),
     }
 }
 
 // The field at a place of the file. Checks in this order: a whole head, a tag that is due, a length that fits it, a whole body, a value in range.
-pub fn next_field<'f>(file: &'f [u8], at: usize, due: Due) -> Result<Field<'f>, Refusal>
+pub fn next_field<'f>(file: &'f [u8], at: usize, due: Option<Due>) -> Result<Field<'f>, Refusal>
     ensures { answered field_of result ≡ field_for (due_of due) (drop at file.now) at }
 {
     field_in(bytes_from(file, at), at, due)

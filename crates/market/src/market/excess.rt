@@ -1,26 +1,34 @@
-// What is owned and demanded of a good, and the excess.
-ghost use Rattle.std.specs.Prelude.{◌≡◌, ℕ, ◌+◌, ◌*◌, ◌<◌, ◌≤◌, length, pos, ◌-ℤ◌, sum};
-ghost use Rattle.trade.specs.Trade.{dot, demand, owned_in_all, excess, clears};
-ghost use Rattle.mesh.specs.Refusals.{answered};
+// What is demanded and supplied of a good, and the excess.
+ghost use Rattle.std.specs.Prelude.{◌≡◌, ℕ, ◌*◌, ◌≤◌, ◌&&◌, length, pos, ◌-ℤ◌, [], MatchResult, ◌≢◌, sum, ◌==◌};
+ghost use Rattle.trade.specs.Trade.{dot, demand, supply, owned_in_all, excess, clears};
+ghost use Rattle.mesh.specs.Refusals.{answered, told};
 ghost use Rattle.mesh.specs.Points.{goods_of, mesh_of, prices_of};
 ghost use Rattle.market.specs.Markets.{traders_of, excess_for, owned_for, market_rule, LabelledBy};
 ghost use Rattle.market.specs.MarketLabel.{label-byte};
 
 use super::Market;
-use crate::rows::Amounts;
+use super::good::Good;
 use labelling::Labelling;
 use mesh::point::PricePoint;
 use mesh::refusal::Refusal;
 
+// A good of a market, at a price point of as many goods.
+#[derive(Clone, Copy)]
+struct Quote<'q> {
+    good: Good<'q>,
+    point: &'q PricePoint,
+    ghost same_goods: { goods_of point.now ≡ good.market.now.numbers.goods },
+}
+
 // What an endowment is worth at these prices.
-fn worth(prices: &[u32], owned: &Amounts) -> u64
-    requires { (length prices.now ≤ 8) × ((sum prices.now ≤ 16384) × (length prices.now ≤ length owned.now.of)) }
-    ensures value { result ≡ dot prices.now owned.now.of }
+fn worth(prices: &[u32], owned: &[u16]) -> u64
+    requires { (length prices.now ≤ 8) × ((sum prices.now ≤ 16384) × (length prices.now ≤ length owned.now)) }
+    ensures value { result ≡ dot prices.now owned.now }
     ensures small { result ≤ 1073725440 }
 {
     let mut income = 0u64;
-    for k in 0..prices.len() {
-        income += u64::from(prices[k]) * u64::from(owned.of[k]);
+    for (price, amount) in prices.iter().zip(owned) {
+        income += u64::from(*price) * u64::from(*amount);
     }
     income
 }
@@ -42,83 +50,75 @@ fn difference(demand: u64, supply: u64) -> i64
     demand as i64 - supply as i64
 }
 
-impl Market {
-    // What all traders own of a good.
-    pub(super) fn owned(&self, good: usize) -> u32
-        requires { (1 ≤ good) × (good ≤ self.now.numbers.goods) }
-        ensures value { result ≡ owned_in_all (traders_of self.now) good }
-        ensures small { result ≤ 1048560 }
+impl<'m> Good<'m> {
+    // The good at a price point. Refuses a point with another number of goods.
+    fn at(&self, point: &'m PricePoint) -> Result<Quote<'m>, Refusal>
+        ensures { MatchResult result
+            (λ q. (goods_of point.now ≡ self.now.market.now.numbers.goods) × ((q.good ≡ self.now) × (q.point.now ≡ point.now)))
+            (λ e. (goods_of point.now ≢ self.now.market.now.numbers.goods) × (told e ≡ (3, []))) }
     {
-        let mut sum = 0u32;
-        for row in 0..self.rows() {
-            sum += u32::from(self.numbers.endowments[row].of[good - 1]);
+        if point.goods() != self.market.goods() {
+            return Err(Refusal::NotAPricePoint);
         }
-        sum
+        Ok(Quote { good: *self, point })
     }
+}
 
-    // What all traders spend on a good at these prices, times the weight sum.
-    fn demanded(&self, prices: &[u32], good: usize) -> u64
-        requires goods { (1 ≤ good) × (good ≤ self.now.numbers.goods) }
-        requires prices { (length prices.now ≡ self.now.numbers.goods) × (sum prices.now ≤ 16384) }
-        ensures value { result ≡ demand (traders_of self.now) prices.now good }
+impl<'q> Quote<'q> {
+    // What all traders spend on the good, times the weight sum.
+    fn demanded(&self) -> u64
+        ensures value { result ≡ demand (traders_of self.now.good.market.now) (prices_of self.now.point.now) self.now.good.number }
         ensures small { result ≤ 1125865547366400 }
     {
+        let prices = self.point.prices();
         let mut sum = 0u64;
-        for a in 0..self.rows() {
-            let income = worth(prices, &self.numbers.endowments[a]);
-            sum += u64::from(self.numbers.weights[a].of[good - 1]) * income;
+        for trader in self.good.market.rows() {
+            let income = worth(prices, &trader.owns);
+            sum += u64::from(trader.weighs[self.good.number - 1]) * income;
         }
         sum
     }
 
-    // What all there is of a good is worth, times the weight sum.
-    fn supplied(&self, price: u32, good: usize) -> u64
-        requires { (1 ≤ good) × ((good ≤ self.now.numbers.goods) × (price ≤ 16384)) }
-        ensures value { result ≡ self.now.numbers.sum * price * owned_in_all (traders_of self.now) good }
+    // What all there is of the good is worth, times the weight sum.
+    fn supplied(&self) -> u64
+        ensures value { result ≡ supply self.now.good.market.now.numbers.sum (traders_of self.now.good.market.now) (prices_of self.now.point.now) self.now.good.number }
         ensures small { result ≤ 17179607040000 }
     {
-        product(self.numbers.sum, price, self.owned(good))
+        product(
+            self.good.market.weight_sum(),
+            self.point.price(self.good.number),
+            self.good.owned(),
+        )
     }
 
-    // The excess of a good of the market at a point of as many goods.
-    fn excess_at(&self, good: usize, point: &PricePoint) -> i64
-        requires { (1 ≤ good) × ((good ≤ self.now.numbers.goods) × (goods_of point.now ≡ self.now.numbers.goods)) }
-        ensures { result ≡ excess self.now.numbers.sum (traders_of self.now) (prices_of point.now) good }
+    // How much more is demanded than supplied.
+    fn excess(&self) -> i64
+        ensures { result ≡ excess self.now.good.market.now.numbers.sum (traders_of self.now.good.market.now) (prices_of self.now.point.now) self.now.good.number }
     {
-        let demand = self.demanded(point.prices(), good);
-        let supply = self.supplied(point.price(good), good);
-        difference(demand, supply)
+        difference(self.demanded(), self.supplied())
     }
+}
 
+impl Market {
     // The excess of one good at a point. Refuses a good that the market does not have, then a point with another number of goods.
     pub fn excess(&self, good: usize, point: &PricePoint) -> Result<i64, Refusal>
         ensures { answered (λ z. z) result ≡ excess_for self.now good point.now }
     {
-        if good < 1 || good > self.numbers.goods {
-            return Err(Refusal::NoSuchGood);
-        }
-        if point.goods() != self.numbers.goods {
-            return Err(Refusal::NotAPricePoint);
-        }
-        Ok(self.excess_at(good, point))
+        Ok(self.good(good)?.at(point)?.excess())
     }
 
     // What is owned of one good in all. Refuses a good that the market does not have.
     pub fn owned_in_all(&self, good: usize) -> Result<u32, Refusal>
         ensures { answered (λ n. n) result ≡ owned_for self.now good }
     {
-        if good < 1 || good > self.numbers.goods {
-            return Err(Refusal::NoSuchGood);
-        }
-        Ok(self.owned(good))
+        Ok(self.good(good)?.owned())
     }
 
-    // A good with a price that is not short.
-    fn clears_at(&self, good: usize, point: &PricePoint) -> bool
-        requires { (1 ≤ good) × ((good ≤ self.now.numbers.goods) × (goods_of point.now ≡ self.now.numbers.goods)) }
-        ensures { result ≡ clears self.now.numbers.sum (traders_of self.now) (prices_of point.now) good }
+    // A good with a price that is not short, at a point of as many goods.
+    fn clears(&self, good: usize, point: &PricePoint) -> bool
+        ensures { result ≡ (goods_of point.now == self.now.numbers.goods && clears self.now.numbers.sum (traders_of self.now) (prices_of point.now) good) }
     {
-        point.price(good) > 0 && self.excess_at(good, point) <= 0
+        point.price(good) > 0 && self.excess(good, point).is_ok_and(|excess| excess <= 0)
     }
 }
 
@@ -132,14 +132,8 @@ impl Labelling for Market {
         ensures value { result ≡ market_rule self.now (goods_of point.now) (mesh_of point.now) (prices_of point.now) }
         ensures found { goods_of point.now ≡ self.now.numbers.goods → LabelledBy self.now point.now result }
     {
-        if point.goods() != self.numbers.goods {
-            return 0;
-        }
-        for j in 0..self.numbers.goods {
-            if self.clears_at(j + 1, point) {
-                return (j + 1) as u8;
-            }
-        }
-        0
+        (1..self.numbers.goods + 1)
+            .find(|good| self.clears(*good, point))
+            .map_or(0, |good| good as u8)
     }
 }

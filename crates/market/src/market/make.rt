@@ -21,22 +21,14 @@ impl Market {
     pub(crate) fn unowned(&self) -> Option<usize>
         ensures { MatchOption result (AllOwned self.now) (λ j. FirstUnowned self.now j) }
     {
-        for good in 1..self.numbers.goods + 1 {
-            if self.owned(good) == 0 {
-                return Some(good);
-            }
-        }
-        None
+        (1..self.numbers.goods + 1).find(|good| self.owned_in_all(*good) == Ok(0))
     }
 
     // Where the name of a good stands in the file that was read.
     pub(crate) fn name_span(&self, good: usize) -> Result<Span, Refusal>
         ensures { answered (λ s. s) result ≡ insist (between 1 self.now.numbers.goods good) 11 (Ok (slice_index_or self.now.numbers.names (good - 1) (record { at = 0; len = 0 }))) }
     {
-        if good < 1 || good > self.numbers.goods {
-            return Err(Refusal::NoSuchGood);
-        }
-        Ok(self.numbers.names[good - 1])
+        Ok(self.good(good)?.span())
     }
 
     // The name of a good, as a part of the file that was read.

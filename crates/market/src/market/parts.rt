@@ -1,8 +1,9 @@
 // The parts of a market.
 ghost use Rattle.std.specs.Prelude.{◌≡◌, length};
-ghost use Rattle.market.specs.Markets.{traders_of};
+ghost use Rattle.market.specs.Markets.{rows_of, traders_of};
 
 use super::Market;
+use crate::rows::Trader;
 
 impl Market {
     // How many goods are traded.
@@ -23,13 +24,13 @@ impl Market {
     pub fn traders(&self) -> usize
         ensures { result ≡ length (traders_of self.now) }
     {
-        self.rows()
+        self.rows().len()
     }
 
-    // How many rows of the tables are filled.
-    pub(super) fn rows(&self) -> usize
-        ensures { result ≡ self.now.numbers.traders }
+    // The filled rows of the table.
+    pub(super) fn rows(&self) -> &[Trader]
+        ensures { result.now ≡ rows_of self.now }
     {
-        self.numbers.traders
+        &self.numbers.traders[..self.numbers.filled]
     }
 }

@@ -1,13 +1,14 @@
 // Adding what one field says.
-ghost use Rattle.std.specs.Prelude.{◌≡◌, ◌+◌, ◌*◌, ◌<◌, ◌≤◌, true, ◌++◌, length, take, sum, ◌==◌, slice_index};
+ghost use Rattle.std.specs.Prelude.{◌≡◌, ℕ, ◌+◌, ◌*◌, ◌<◌, ◌≤◌, true, ◌++◌, length, take, sum, ◌==◌, slice_index};
 ghost use Rattle.std.specs.List.{flat_map};
 ghost use Rattle.layout.specs.Layout.{two};
 ghost use Rattle.market.specs.Fields.{due_of};
 ghost use Rattle.market.specs.Rows.{cut, short};
-ghost use Rattle.market.specs.Adding.{unsaid, due_in, with_goods, with_name, with_sum, with_trader};
+ghost use Rattle.market.specs.Adding.{Written, unsaid, due_in, with_goods, with_name, with_sum, with_trader};
 
-use super::{Amounts, Numbers, Span};
+use super::{Numbers, Span, Trader};
 use crate::field::{Due, byte_at, bytes_from, number_at};
+use std::array;
 
 // The number at one place among numbers of two bytes each.
 fn amount_at(body: &[u8], place: usize) -> u16
@@ -17,23 +18,18 @@ fn amount_at(body: &[u8], place: usize) -> u16
     number_at(body, 2 * place)
 }
 
-// So many numbers of two bytes each.
-pub(crate) fn amounts(body: &[u8], goods: usize) -> Amounts
-    requires { (goods ≤ 8) × (length body.now ≡ 2 * goods) }
-    ensures { (length result.of ≡ 8) × ((flat_map two (take goods result.of) ≡ body.now) × (short (take goods result.of) ≡ true)) }
+// Numbers of two bytes each; 0 past the end.
+fn amounts(body: &[u8]) -> [u16; 8]
+    ensures { (length result ≡ 8) × ((k : ℕ) → k < 8 → slice_index result k ≡ 256 * slice_index body.now (2 * k) + slice_index body.now (2 * k + 1)) }
 {
-    let mut of = [0u16; 8];
-    for good in 0..goods {
-        of[good] = amount_at(body, good);
-    }
-    Amounts { of }
+    array::from_fn(|good| amount_at(body, good))
 }
 
 // The first bytes, so many of them or all.
 fn first_bytes<'f>(bytes: &'f [u8], len: usize) -> &'f [u8]
     ensures { result.now ≡ take len bytes.now }
 {
-    &bytes[0..len.min(bytes.len())]
+    bytes.get(..len).unwrap_or(bytes)
 }
 
 impl Span {
@@ -45,25 +41,32 @@ impl Span {
     }
 }
 
-impl Amounts {
-    // The sum over the first goods.
-    pub(crate) fn total(&self, goods: usize) -> u32
-        requires { (goods ≤ 8) × (length self.now.of ≡ 8) }
-        ensures { result ≡ sum (take goods self.now.of) }
+// The sum of some numbers of two bytes.
+fn total(amounts: &[u16]) -> u32
+    requires { length amounts.now ≤ 8 }
+    ensures { result ≡ sum amounts.now }
+{
+    amounts.iter().map(|n| u32::from(*n)).sum()
+}
+
+impl Trader {
+    // The trader of a body: first what it owns of each good, then how it weighs each.
+    pub(crate) fn of(body: &[u8], goods: usize) -> Trader
+        requires { (goods ≤ 8) × (length body.now ≡ 4 * goods) }
+        ensures { Written body.now goods result }
     {
-        let mut total = 0u32;
-        for k in 0..goods {
-            total += u32::from(self.of[k]);
-        }
-        total
+        let (owned, weighed) = body.split_at(2 * goods);
+        let owns = amounts(owned);
+        let weighs = amounts(weighed);
+        Trader { owns, weighs }
     }
 
-    // The numbers of the first goods add up to that.
+    // The weights of the goods add up to that.
     pub(crate) fn adds_up_to(&self, goods: usize, whole: u32) -> bool
-        requires { (goods ≤ 8) × (length self.now.of ≡ 8) }
-        ensures { result ≡ (sum (take goods self.now.of) == whole) }
+        requires { (goods ≤ 8) × (length self.now.weighs ≡ 8) }
+        ensures { result ≡ (sum (take goods self.now.weighs) == whole) }
     {
-        self.total(goods) == whole
+        total(&self.weighs[..goods]) == whole
     }
 }
 
@@ -71,33 +74,38 @@ impl Numbers {
     pub(crate) fn unsaid() -> Numbers
         ensures { result ≡ unsaid }
     {
-        let none = Amounts { of: [0; 8] };
+        let none = Trader {
+            owns: [0; 8],
+            weighs: [0; 8],
+        };
         Numbers {
             goods: 0,
             named: 0,
             names: [Span { at: 0, len: 0 }; 8],
             sum: 0,
-            traders: 0,
-            endowments: [none; 16],
-            weights: [none; 16],
+            filled: 0,
+            traders: [none; 16],
         }
     }
 
     // First the goods, then their names, then the sum, then up to 16 traders.
-    pub(crate) fn due(&self) -> Due
+    pub(crate) fn due(&self) -> Option<Due>
         requires { self.now.goods ≤ 8 }
         ensures { due_of result ≡ due_in self.now }
     {
         if self.goods == 0 {
-            Due::Goods
+            Some(Due::Goods)
         } else if self.named < self.goods {
-            Due::Name
+            Some(Due::Name)
         } else if self.sum == 0 {
-            Due::Sum
-        } else if self.traders < 16 {
-            Due::Trader(self.goods as u8, self.sum)
+            Some(Due::Sum)
+        } else if self.filled < 16 {
+            Some(Due::Trader {
+                goods: self.goods as u8,
+                sum: self.sum,
+            })
         } else {
-            Due::Nothing
+            None
         }
     }
 
@@ -126,13 +134,12 @@ impl Numbers {
         self.sum = u32::from(number_at(body, 0));
     }
 
-    pub(crate) fn add_trader(&mut self, owns: Amounts, weighs: Amounts)
-        requires { self.old.traders < 16 }
-        ensures { self.new ≡ with_trader self.old owns weighs }
+    pub(crate) fn add_trader(&mut self, trader: Trader)
+        requires { self.old.filled < 16 }
+        ensures { self.new ≡ with_trader self.old trader }
     {
-        let row = self.traders;
-        self.endowments[row] = owns;
-        self.weights[row] = weighs;
-        self.traders = row + 1;
+        let row = self.filled;
+        self.traders[row] = trader;
+        self.filled = row + 1;
     }
 }

@@ -1,11 +1,11 @@
-use Rattle.std.proofs.Common.{◌*◌, ◌<◌, length, get_or, drop, sym, refl, ap, ◌∙◌, arith, rules}
+use Rattle.std.proofs.Common.{◌<◌, length, get_or, drop, sym, refl, ap, ◌∙◌, arith}
 use Rattle.std.proofs.lemmas.Result.{err_from_is_err_and}
 use Rattle.std.proofs.lemmas.Bool.{eqb-true, eqb-false}
 use Rattle.layout.specs.Faults.{length_of}
 use Rattle.market.specs.Adding.{due_in}
 use Rattle.market.specs.Fields.{due_of, field_of}
 use Rattle.market.specs.declared.field.Field.TheVariants.{Goods, Name, Sum, Trader}
-use Rattle.market.proofs.OneField.{arm-told, arm-refused, moved_on, halves, second-half, body_bytes}
+use Rattle.market.proofs.OneField.{arm-told, arm-refused, moved_on, body_bytes}
 use Rattle.market.proofs.Turns.{field_told, goods-few, held-fault, field-within, held-goods, held-name, held-sum, trader-room, held-trader, trader-off}
 use Rattle.market.proofs.reader.read_one.Goals as goal
 
@@ -25,29 +25,19 @@ overflow_add-end-2 c =
     let inside = field-within file c.args.at c.args.numbers.now c.requires.held f.1 f.2 f.0 told in
     omega (arith, inside.1, ap length c.body.ensures)
 
-pub add_name-requires : goal.add_name-requires
-add_name-requires c = (search rules, search rules)
-
-pub amounts-weighs-requires : goal.amounts-weighs-requires
-amounts-weighs-requires c =
+pub of-trader-requires : goal.of-trader-requires
+of-trader-requires c =
     let file = c.args.file.now in
     let n = c.args.numbers.now in
-    let body = c.in-Trader.body.now in
     let told = arm-told (due_of c.due.result) (due_in n) (drop c.args.at file) c.args.at c.in_ok-field.field (Trader c.in-Trader.body c.in-Trader.place) c.in_ok-field.ensures c.due.ensures c.in-Trader.is in
-    let few = goods-few file c.args.at n c.requires.held in
-    (few, second-half body n.goods (trader-room file c.args.at n c.requires.held body c.in-Trader.place told).1)
+    (goods-few file c.args.at n c.requires.held, (trader-room file c.args.at n c.requires.held c.in-Trader.body.now c.in-Trader.place told).1)
 
 pub returns-then-not-adds_up_to : goal.returns-then-not-adds_up_to
 returns-then-not-adds_up_to c =
     let file = c.args.file.now in
     let n = c.args.numbers.now in
-    let body = c.in-Trader.body.now in
     let told = arm-told (due_of c.due.result) (due_in n) (drop c.args.at file) c.args.at c.in_ok-field.field (Trader c.in-Trader.body c.in-Trader.place) c.in_ok-field.ensures c.due.ensures c.in-Trader.is in
-    let few = goods-few file c.args.at n c.requires.held in
-    let owns = c.amounts-owns.ensures in
-    let weighs = c.amounts-weighs.ensures in
-    let rows = halves body _ _ (2 * n.goods) owns.1.0 weighs.1.0 in
-    trader-off file c.args.at n c.requires.held body c.in-Trader.place c.amounts-owns.result c.amounts-weighs.result rows (omega (arith, few, owns.0)) (omega (arith, few, weighs.0)) owns.1.1 weighs.1.1 told
+    trader-off file c.args.at n c.requires.held c.in-Trader.body.now c.in-Trader.place c.of-trader.result c.of-trader.ensures (goods-few file c.args.at n c.requires.held) told
     (eqb-false _ _ (sym c.if-not-adds_up_to.ensures))
 
 pub returns-in-Goods : goal.returns-in-Goods
@@ -82,9 +72,5 @@ returns-else-not-adds_up_to c =
     let n = c.args.numbers.now in
     let body = c.in-Trader.body.now in
     let told = arm-told (due_of c.due.result) (due_in n) (drop c.args.at file) c.args.at c.in_ok-field.field (Trader c.in-Trader.body c.in-Trader.place) c.in_ok-field.ensures c.due.ensures c.in-Trader.is in
-    let few = goods-few file c.args.at n c.requires.held in
-    let owns = c.amounts-owns.ensures in
-    let weighs = c.amounts-weighs.ensures in
-    let rows = halves body _ _ (2 * n.goods) owns.1.0 weighs.1.0 in
     moved_on file c.args.at body c.body.result.now c.add_trader.new.self _ (c.body.ensures ∙ ap (λ f. (field_of f).1) c.in-Trader.is) c.add_trader.ensures
-    (held-trader file c.args.at n c.requires.held body c.in-Trader.place c.amounts-owns.result c.amounts-weighs.result rows (omega (arith, few, owns.0)) (omega (arith, few, weighs.0)) owns.1.1 weighs.1.1 told (eqb-true _ _ (sym c.if-not-adds_up_to.ensures)))
+    (held-trader file c.args.at n c.requires.held body c.in-Trader.place c.of-trader.result c.of-trader.ensures (goods-few file c.args.at n c.requires.held) told (eqb-true _ _ (sym c.if-not-adds_up_to.ensures)))

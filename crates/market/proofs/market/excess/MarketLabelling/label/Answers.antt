@@ -1,26 +1,18 @@
-use Rattle.std.proofs.Common.{sym, ◌∙◌, arith}
-use Rattle.mesh.specs.Points.{prices_of}
+use Rattle.std.proofs.Common.{rules, ◌≡◌, ◌&&◌, Bool, true, false, ℕ}
+use Rattle.std.specs.Prelude.{◌==◌}
+use Rattle.std.specs.Option.{unwrap_or}
+use Rattle.std.proofs.lemmas.Iterator.{first_from_Range}
+use Rattle.mesh.specs.Points.{goods_of, prices_of}
 use Rattle.trade.specs.Trade.{clears}
-use Rattle.trade.proofs.Search.{left-more, left_here, left_end}
 use Rattle.market.specs.Markets.{traders_of}
-use Rattle.market.specs.MarketLabel.{rule-here, label-here}
+use Rattle.market.proofs.LabelSearch.{label-is, label-found}
 use Rattle.market.proofs.market.excess.MarketLabelling.label.Goals as goal
-
-pub loop-j-preserved : goal.loop-j-preserved
-loop-j-preserved c =
-    let m = c.args.self.now in
-    c.loop-j.invariant ∙ left-more (clears m.numbers.sum (traders_of m) (prices_of c.args.point.now)) m.numbers.goods c.loop-j.j (omega arith) (sym c.if-clears_at.ensures)
-
-pub returns-then-clears_at : goal.returns-then-clears_at
-returns-then-clears_at c =
-    let m = c.args.self.now in
-    let same = sym c.goods.ensures ∙ c.if-goods-self.false in
-    let is = sym (c.loop-j.invariant ∙ left_here (clears m.numbers.sum (traders_of m) (prices_of c.args.point.now)) m.numbers.goods c.loop-j.j (omega arith) (sym c.if-clears_at.ensures)) in
-    record { value = rule-here m c.args.point.now same _ is; found = λ own. label-here m c.args.point.now own _ is }
 
 pub returns : goal.returns
 returns c =
     let m = c.args.self.now in
-    let same = sym c.goods.ensures ∙ c.if-goods-self.false in
-    let is = sym (c.loop-j.invariant ∙ left_end (clears m.numbers.sum (traders_of m) (prices_of c.args.point.now)) m.numbers.goods c.loop-j.j c.loop-j-test.false) in
-    record { value = rule-here m c.args.point.now same _ is; found = λ own. label-here m c.args.point.now own _ is }
+    let p = c.args.point.now in
+    let test : ℕ → Bool = λ j. goods_of p == m.numbers.goods && clears m.numbers.sum (traders_of m) (prices_of p) j in
+    let sought = first_from_Range _ _ _ _ (λ j. true ≡ test j) (λ j. false ≡ test j) c.find.ensures.ran (λ x q called. cc) (λ x q called. (search rules, cc)) in
+    let is : c.map_or.result ≡ unwrap_or c.find.result 0 = search rules in
+    record { value = label-is m p c.find.result sought _ is; found = label-found m p c.find.result sought _ is }
