@@ -1,7 +1,7 @@
 // Walls, and what lies across a place, as a triangulation tells it by a pair of numbers.
-ghost use Rattle.std.specs.Prelude.{◌≡◌, ◌<◌};
+ghost use Rattle.std.specs.Prelude.{◌≡◌};
 ghost use Rattle.cells.specs.Cells.{wall_code};
-ghost use Rattle.cells.specs.Ways.{wall_of, way_of, numbers_of, place_of};
+ghost use Rattle.cells.specs.Ways.{wall_of, way_of};
 
 // The outer wall, the real wall, or the wall of a good, where its price is 0.
 #[derive(Clone, Copy, Debug, PartialEq, Eq)]
@@ -27,20 +27,6 @@ impl Wall {
             Wall::Outer => 9,
             Wall::Real => 10,
             Wall::Good(good) => good,
-        }
-    }
-}
-
-impl Way {
-    // The pair of numbers that tells this way across a place.
-    pub fn numbers(self, place: usize) -> (u8, u8)
-        requires from { place < 256 }
-        requires to { place_of place self < 256 }
-        ensures { result ≡ numbers_of place self }
-    {
-        match self {
-            Way::Moved(new_place) => (new_place as u8, 0),
-            Way::Stopped(wall) => (place as u8, wall.number()),
         }
     }
 }

@@ -1,8 +1,8 @@
 // What lies across a place of a cell of K1 or J1, and its corners. Their cells are of one form; they differ at the first place and at the last.
-ghost use Rattle.std.specs.Prelude.{◌≡◌, ℕ, ◌≤◌};
+ghost use Rattle.std.specs.Prelude.{◌≡◌, ℕ, ◌<◌, ◌≤◌};
 ghost use Rattle.cells.specs.Triangulation.{Shape, Mesh};
 ghost use Rattle.cells.specs.Cells.{CornerAnswer, AcrossAnswer};
-ghost use Rattle.cells.specs.Ways.{place_of};
+ghost use Rattle.cells.specs.Ways.{numbers_of, place_of};
 ghost use Rattle.todd_laws.specs.Records.{InFamily};
 ghost use Rattle.todd.specs.Walk.{CrossesIn};
 
@@ -56,7 +56,19 @@ fn cross<M: Member>(grid: &Grid, cell: &mut Cell, place: usize) -> Way
     cross_middle(grid, cell, place)
 }
 
-// The same, told by a pair of numbers.
+// The pair of numbers that tells a way across a place.
+fn numbers(way: Way, place: usize) -> (u8, u8)
+    requires from { place < 256 }
+    requires to { place_of place way < 256 }
+    ensures { result ≡ numbers_of place way }
+{
+    match way {
+        Way::Moved(new_place) => (new_place as u8, 0),
+        Way::Stopped(wall) => (place as u8, wall.number()),
+    }
+}
+
+// Crosses a cell at a place, and tells it by a pair of numbers.
 pub(crate) fn across<M: Member>(
     grid: &Grid,
     cell: &mut Cell,
@@ -67,5 +79,6 @@ pub(crate) fn across<M: Member>(
     if place > grid.goods() {
         return Err(Refusal::NoSuchPlace);
     }
-    Ok(cross::<M>(grid, cell, place).numbers(place))
+    let way = cross::<M>(grid, cell, place);
+    Ok(numbers(way, place))
 }
