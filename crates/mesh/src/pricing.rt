@@ -1,4 +1,4 @@
-// Prices from levels: each is a level less the next. They are read of any numbers; those that do not fall give 0 where they rise.
+// Prices from levels: each is a level less the next, and 0 where the next is above it.
 ghost use Rattle.std.specs.Prelude.{◌≡◌, ℕ, ◌+◌, ◌-◌, ◌<◌, ◌≤◌, length, take, slice_index};
 ghost use Rattle.mesh.specs.Prices.{to_prices};
 

@@ -1,6 +1,5 @@
 // A corner of the cell in which a run stands.
 ghost use Rattle.std.specs.Prelude.{◌≡◌, ℕ, ◌*◌, ◌<◌, ◌≤◌, map, length, take, slice_index};
-ghost use Rattle.mesh.specs.Prices.{price, to_prices};
 ghost use Rattle.state.specs.Views.{is_proper};
 
 use mesh::pricing::price_at;

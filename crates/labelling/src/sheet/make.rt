@@ -1,5 +1,5 @@
 // Making a sheet, and its labels.
-ghost use Rattle.std.specs.Prelude.{◌≡◌, ℕ, ◌≤◌, length, take, drop, sum, slice_index};
+ghost use Rattle.std.specs.Prelude.{◌≡◌, drop, sum};
 ghost use Rattle.labelling.specs.Sheets.{sheet_of, sheet_for, rule_of};
 ghost use Rattle.mesh.specs.Points.{prices_of};
 ghost use Rattle.mesh.specs.Refusals.{answered};

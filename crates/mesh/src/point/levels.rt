@@ -1,5 +1,5 @@
 // Levels: each is the sum of the prices from its good on.
-ghost use Rattle.std.specs.Prelude.{◌≡◌, ℕ, ◌+◌, ◌^◌, ◌<◌, ◌≤◌, length, take, drop, IfOk, sum, slice_index};
+ghost use Rattle.std.specs.Prelude.{◌≡◌, ℕ, ◌^◌, ◌<◌, take, drop, IfOk, sum, slice_index};
 ghost use Rattle.mesh.specs.Points.{point_of, point_at_levels, levels_fit, goods_of, mesh_of, prices_of};
 ghost use Rattle.mesh.specs.Prices.{first, falls, Falls, to_levels, to_prices};
 ghost use Rattle.mesh.specs.Refusals.{answered};

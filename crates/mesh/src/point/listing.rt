@@ -1,5 +1,5 @@
 // Going through the price points of a mesh, from all of it on the first good to all of it on the last.
-ghost use Rattle.std.specs.Prelude.{◌≡◌, ◌-◌, length, sum, MatchOption, slice_index};
+ghost use Rattle.std.specs.Prelude.{◌≡◌, ◌-◌, length, MatchOption};
 ghost use Rattle.mesh.specs.Listing.{IsFirst, IsLast, RightAfter};
 ghost use Rattle.mesh.specs.Points.{goods_of, mesh_of, prices_of};
 ghost use Rattle.mesh.specs.Step.{NonePriced, LastPriced, stepped};

@@ -1,5 +1,5 @@
 // Making a price point from handed numbers, and reading its parts.
-ghost use Rattle.std.specs.Prelude.{◌≡◌, ◌≤◌, length, take, sum};
+ghost use Rattle.std.specs.Prelude.{◌≡◌, ◌≤◌, length, sum};
 ghost use Rattle.mesh.specs.Points.{point_of, point_for, goods_of, mesh_of, prices_of};
 ghost use Rattle.mesh.specs.Prices.{price};
 ghost use Rattle.mesh.specs.Refusals.{answered};
@@ -23,10 +23,7 @@ impl PricePoint {
         ensures { answered point_of result ≡ point_for goods mesh prices.now }
     {
         let grid = Grid::new(goods, mesh)?;
-        if prices.len() != goods {
-            return Err(Refusal::NotAPricePoint);
-        }
-        if total(prices) != u64::from(mesh) {
+        if prices.len() != goods || total(prices) != u64::from(mesh) {
             return Err(Refusal::NotAPricePoint);
         }
         let prices = table_of(prices, 0);
