@@ -1,8 +1,8 @@
 -- Checks in their order.
 --   insist-ok, insist-err     what a grant and a refusal say of a check
 --   passed                    the checks of a price point, where all are passed
---   holds, fails, tests       a test that holds or fails
-use Rattle.std.proofs.Common.{◌≡◌, ℕ, Bool, true, false, T as Holds, ◌⊎◌, [], Ok, Err, Result, sym, refl, subst, inl, inr, arith}
+--   fails, tests              a test that fails or holds
+use Rattle.std.proofs.Common.{◌≡◌, ℕ, Bool, true, false, T as Holds, ◌⊎◌, [], Ok, Err, Result, refl, subst, inl, inr, arith}
 use Rattle.mesh.specs.Refusals.{Told, insist}
 
 -- What is granted passed the test.
@@ -18,9 +18,6 @@ insist-err false n go t e = inl (refl, cc)
 
 pub passed : {B : Type 0} (a b c : Bool) (go : Result B Told) → a ≡ true → b ≡ true → c ≡ true → insist a 1 (insist b 2 (insist c 3 go)) ≡ go
 passed a b c go p q r = rw (p, q, r)
-
-pub holds : (test : Bool) → test ≡ true → Holds test
-holds test e = subst Holds (sym e) tt
 
 pub fails : (test : Bool) → test ≡ false → Holds test → ⊥
 fails test e h = subst Holds e h

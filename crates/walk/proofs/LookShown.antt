@@ -2,6 +2,7 @@
 --   look-told       a look shows where the path stands
 --   look-early, look-no-good, look-kept    looking for a label: too early, for no good, for one
 use Rattle.std.proofs.Common.{◌≡◌, ℕ, ◌≤◌, true, false, List, [], take, Some, None, Ok, Err, Result, MatchResult, sym, refl, ap, ◌∙◌}
+use Rattle.std.proofs.lemmas.Float.{T_from_true}
 use Rattle.mesh.specs.Prices.{to_prices}
 use Rattle.mesh.specs.Range.{between}
 use Rattle.mesh.specs.declared.refusal.Refusal.{Refusal}
@@ -14,7 +15,7 @@ use Rattle.state.specs.declared.record.State.{State}
 use Rattle.walk.specs.Answers.{found}
 use Rattle.walk.specs.Records.{PricesOf}
 use Rattle.walk.specs.Showing.{standing, Goes}
-use Rattle.walk.proofs.Checks.{holds, fails}
+use Rattle.walk.proofs.Checks.{fails}
 use Rattle.walk.proofs.Shown.{arrived-is, arrived-not, corner-shown, carries, carried, goes, saying-goes}
 
 module _ (T : (g D : ℕ) → Mesh Shape g D) (L : Rule) (o : Opening) (lawful : (g D : ℕ) → 2 ≤ g → 1 ≤ D → Lawful (T g D)) (calls : List Call) (p : Path)
@@ -42,7 +43,7 @@ module _ (T : (g D : ℕ) → Mesh Shape g D) (L : Rule) (o : Opening) (lawful :
     look_none : (v : View) → v ≡ standing T L o p → (d : ℕ) → arrived_at v.sight.stage ≡ Some d → between 1 v.sight.goods j ≡ true → NoCarrier v j d → ⊥
     look_none v stands d =
         rw stands (λ there good none.
-        carried T L o lawful calls p leads d (arrived-is p.stage d there) j (in-range 1 o.goods j (holds (between 1 o.goods j) good)) none)
+        carried T L o lawful calls p leads d (arrived-is p.stage d there) j (in-range 1 o.goods j (T_from_true (between 1 o.goods j) good)) none)
 
     look-finds : (v : View) → v ≡ standing T L o p → (d : ℕ) → arrived_at v.sight.stage ≡ Some d → between 1 v.sight.goods j ≡ true
         → (x : List ℕ) → PricesOf v j d x → (s : State) → view_of s ≡ v → Goes T L o calls (look_for j) (prices (take v.sight.goods x)) s
@@ -53,7 +54,7 @@ module _ (T : (g D : ℕ) → Mesh Shape g D) (L : Rule) (o : Opening) (lawful :
         let c = carries T L o p d at j i one.carrier in
         let same : take o.goods x ≡ prices_on T L o p.leg i = one.prices ∙ ap to_prices (corner-shown T L o p i c.place) in
         goes T L o lawful calls p leads (look_for j) (saying p (prices (prices_on T L o p.leg i)))
-        (finds d i at (in-range 1 o.goods j (holds (between 1 o.goods j) good)) c refl)
+        (finds d i at (in-range 1 o.goods j (T_from_true (between 1 o.goods j) good)) c refl)
         (prices (take o.goods x)) (ap prices (sym same)) s shows)
 
     -- With what was found at the kept corners.

@@ -2,6 +2,7 @@
 --   open-refused    handed numbers that are no price point
 --   open-stands     the run begins at the start point, or it is not admitted
 use Rattle.std.proofs.Common.{◌≡◌, ℕ, ◌≤◌, Bool, true, false, T as Holds, [], IfOk, Ok, Err, Result, sym, refl, ap, ◌∙◌, arith}
+use Rattle.std.proofs.lemmas.Float.{T_from_true}
 use Rattle.mesh.specs.Range.{fit_goods, fit_mesh, prices_add_up}
 use Rattle.mesh.specs.Points.{Priced, point_for}
 use Rattle.mesh.specs.Refusals.{Told, answered, insist}
@@ -15,7 +16,7 @@ use Rattle.state.specs.Views.{view_of}
 use Rattle.state.specs.declared.record.State.{State}
 use Rattle.walk.specs.Records.{fresh}
 use Rattle.walk.specs.Showing.{standing, Came, opened, opening}
-use Rattle.walk.proofs.Checks.{insist-ok, passed, holds}
+use Rattle.walk.proofs.Checks.{insist-ok, passed}
 use Rattle.walk.proofs.Standing.{begun}
 
 -- What is refused before a point is made is refused whatever follows.
@@ -36,7 +37,7 @@ module _ (T : (g D : ℕ) → Mesh Shape g D) (L : Rule) (o : Opening) (lawful :
         → answered view_of r ≡ insist admits 4 (Ok (fresh (T o.goods o.mesh) o.number 1 o.start))
         → (answered view_of r ≡ insist admits 4 (Ok (standing T L o (opening T L o)))) × IfOk r (λ s. Came T L o [] s) × IfOk r (λ s. Claim T L o (opening T L o))
     begins-there true admitted (Ok s) e =
-        let admits = holds ((T o.goods o.mesh).admitted o.start) admitted in
+        let admits = T_from_true ((T o.goods o.mesh).admitted o.start) admitted in
         let leads : Leads T L o [] (opening T L o) = record { goods = goods; mesh = mesh; admits = admits; then = refl } in
         let begins = begun T L o lawful o.mesh o.start [] goods mesh admits in
         let shows : view_of s ≡ standing T L o (opening T L o) = cc in
@@ -56,6 +57,6 @@ module _ (T : (g D : ℕ) → Mesh Shape g D) (L : Rule) (o : Opening) (lawful :
         let c = insist-ok (prices_add_up o.goods o.mesh o.start) 3 _ point b.1 in
         let made_of : point ≡ record { goods = o.goods; mesh = o.mesh; prices = o.start } = cc c.1 in
         rw made_of (λ r n e first.
-        let h = begins-there (holds _ a.0) (holds _ b.0) ((T o.goods o.mesh).admitted o.start) refl r
+        let h = begins-there (T_from_true _ a.0) (T_from_true _ b.0) ((T o.goods o.mesh).admitted o.start) refl r
         (e ∙ ap (λ k. insist ((T o.goods o.mesh).admitted o.start) 4 (Ok (fresh (T o.goods o.mesh) o.number k o.start))) first) in
         (h.0 ∙ sym (passed (fit_goods o.goods) (fit_mesh o.goods o.mesh) (prices_add_up o.goods o.mesh o.start) _ a.0 b.0 c.0), h.1, h.2))

@@ -7,6 +7,7 @@ use Rattle.std.proofs.Common.{◌≡◌, ℕ, zero, suc, ◌+◌, ◌≤◌, tru
 use Rattle.std.proofs.lemmas.List.{length-replicate, get_or-replicate}
 use Rattle.std.proofs.lemmas.Bool.{cases_eq, cond-true, cond-false, cond_both, eq-eqb, ne_eqb, lt-ltb, le-ltb}
 use Rattle.std.proofs.lemmas.Bool.Decides.{nat_tests}
+use Rattle.std.proofs.lemmas.Float.{T_from_true}
 use Rattle.mesh.specs.Points.{goods_of, mesh_of, prices_of}
 use Rattle.mesh.specs.Prices.{first}
 use Rattle.mesh.specs.Refusals.{Told}
@@ -23,7 +24,6 @@ use Rattle.path.proofs.OneLeg.{places-but}
 use Rattle.state.specs.Views.{View, Labelled, with, bare, placing}
 use Rattle.state.proofs.Listed.{is-listed, listed-ext, listed-set}
 use Rattle.walk.specs.Records.{fresh}
-use Rattle.walk.proofs.Checks.{holds}
 
 -- The run v with the corners of the cell a at the places before n placed.
 abbrev pub placed_to : {g D : ℕ} → Mesh Shape g D → View → Shape → ℕ → View
@@ -151,7 +151,7 @@ module _ (T : (g D : ℕ) → Mesh Shape g D) (lawful : (g D : ℕ) → 2 ≤ g 
   law = lawful (goods_of point) (mesh_of point) point.grid.goods_fit.0 point.grid.mesh_fits.0
 
   admits : Holds (M.admitted (prices_of point))
-  admits = holds (M.admitted (prices_of point)) admitted
+  admits = T_from_true (M.admitted (prices_of point)) admitted
 
   in-start-cell : M.is_cell (shape_of (goods_of point) cell)
   in-start-cell = subst M.is_cell (sym shape) (law.start_cell (prices_of point) admits)

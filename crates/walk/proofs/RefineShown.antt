@@ -6,6 +6,7 @@
 use Rattle.std.proofs.Common.{◌≡◌, ℕ, suc, ◌*◌, ◌<◌, ◌≤◌, Bool, true, false, T as Holds, List, map, get_or, take, Ok, Err, Result, sym, refl, ap, ◌∙◌, ⊎_elim, mul-le-mul_right, arith}
 use Rattle.std.proofs.lemmas.List.{get_or-take, length-map}
 use Rattle.std.proofs.lemmas.Bool.{and_from, eq-eqb}
+use Rattle.std.proofs.lemmas.Float.{T_from_true}
 use Rattle.mesh.specs.Prices.{to_prices}
 use Rattle.mesh.specs.Range.{most, fit_goods, fit_mesh, prices_add_up}
 use Rattle.mesh.specs.Points.{point_for}
@@ -21,7 +22,7 @@ use Rattle.state.specs.declared.record.State.{State}
 use Rattle.walk.specs.Answers.{made_finer, after}
 use Rattle.walk.specs.Records.{PricesOf, accepting, finer_mesh, fresh}
 use Rattle.walk.specs.Showing.{standing, Goes}
-use Rattle.walk.proofs.Checks.{passed, tests, holds, fails}
+use Rattle.walk.proofs.Checks.{passed, tests, fails}
 use Rattle.walk.proofs.FinerStart.{sum-times, mesh-there, prices-there, times-small}
 use Rattle.walk.proofs.Shown.{arrived-is, corner-shown, carries, carried, goes}
 use Rattle.walk.proofs.Standing.{begun}
@@ -110,7 +111,7 @@ module _ (T : (g D : ℕ) → Mesh Shape g D) (L : Rule) (o : Opening) (lawful :
         → Goes T L o calls (refine number mesh f) (made_finer r) (after s r)
     stands-there true admitted s shows (Ok t) e =
         let q : Path = record { leg = begins T L o (f * p.leg.mesh) (finer T L o p f one.place); earlier = legs p; stage = walking; said = began } in
-        let admits = holds ((T o.goods (f * p.leg.mesh)).admitted (finer T L o p f one.place)) admitted in
+        let admits = T_from_true ((T o.goods (f * p.leg.mesh)).admitted (finer T L o p f one.place)) admitted in
         let begins-there = begun T L o lawful (f * p.leg.mesh) (finer T L o p f one.place) (legs p) (sound T L o lawful calls p leads).goods mesh-holds admits in
         let shows-there : view_of t ≡ standing T L o q = cc in
         goes T L o lawful calls p leads (refine number mesh f) q (refines (was-accepted d accepted).1 factor mesh-fits d one.place there carrier admits refl) began refl t shows-there

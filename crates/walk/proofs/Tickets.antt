@@ -3,12 +3,13 @@
 --   finer-ok, finer-err            the factor and the finer mesh
 use Rattle.std.proofs.Common.{◌≡◌, ℕ, ◌*◌, ◌<◌, ◌≤◌, ◌&&◌, eqb, leb, ◌⊎◌, [], Some, None, Ok, Err, Option, inl, inr, ⊎_elim, arith}
 use Rattle.std.proofs.lemmas.Bool.{and_parts, and_from, both_ways, eqb-true, eq-eqb, leb-true, leb-false}
+use Rattle.std.proofs.lemmas.Float.{T_from_true}
 use Rattle.mesh.specs.Range.{most, between}
 use Rattle.mesh.specs.Refusals.{Told}
 use Rattle.path.proofs.Powers.{in-range, range-in}
 use Rattle.state.specs.Views.{View, arrived_at}
 use Rattle.walk.specs.Records.{accepting_at, accepting, finer_mesh}
-use Rattle.walk.proofs.Checks.{insist-ok, insist-err, holds, fails}
+use Rattle.walk.proofs.Checks.{insist-ok, insist-err, fails}
 
 module _ (v : View) (number mesh : ℕ) where
   -- An accepted ticket is that of an arrived run and of its mesh.
@@ -40,7 +41,7 @@ module _ (g D f : ℕ) where
   finer-ok E e =
       let a = insist-ok (between 2 64 f) 6 _ E e in
       let b = insist-ok (leb (f * D) (most g)) 7 _ E a.1 in
-      (in-range 2 64 f (holds _ a.0), leb-true (f * D) (most g) b.0, cc b.1)
+      (in-range 2 64 f (T_from_true _ a.0), leb-true (f * D) (most g) b.0, cc b.1)
 
   -- 6 for the factor, 7 for the mesh.
   pub finer-err : (t : Told) → finer_mesh g D f ≡ Err t
@@ -49,7 +50,7 @@ module _ (g D f : ℕ) where
       ⊎_elim
       (λ a. inl (λ factor. fails _ a.0 (range-in 2 64 f factor.0 factor.1), a.1))
       (λ a. ⊎_elim
-      (λ b. inr (in-range 2 64 f (holds _ a.0), leb-false (f * D) (most g) b.0, b.1))
+      (λ b. inr (in-range 2 64 f (T_from_true _ a.0), leb-false (f * D) (most g) b.0, b.1))
       (λ b. let granted = b.1 in let z : ◌≡◌ {A = ℕ} 0 1 = cc in absurd (omega arith))
       (insist-err (leb (f * D) (most g)) 7 (Ok (f * D)) t a.1))
       (insist-err (between 2 64 f) 6 _ t e)

@@ -1,7 +1,7 @@
-use Rattle.std.proofs.Common.{◌≡◌, ◌-◌, take, sym, refl, ap, ◌∙◌}
+use Rattle.std.proofs.Common.{◌-◌, take, sym, refl, ap, ◌∙◌, ap₂}
 use Rattle.std.proofs.lemmas.Result.{err_from_is_err_and}
 use Rattle.mesh.specs.Points.{point_of, point_for}
-use Rattle.state.specs.Views.{view_of, goods_of}
+use Rattle.state.specs.Views.{view_of}
 use Rattle.walk.specs.Records.{finer_mesh}
 use Rattle.walk.proofs.RefineShown.{refine-not-accepted, refine-no-mesh, refine-none}
 use Rattle.walk.proofs.Refining.{scaled-start, no-refusal, begins-there}
@@ -19,8 +19,7 @@ pub returns-in_err-mesh : goal.returns-in_err-mesh
 returns-in_err-mesh b c = λ o calls came.
     let s = c.args.self.now.state in
     let p = err_from_is_err_and c.from_residual-in_err-mesh.result c.from_residual-in_err-mesh.ensures.1 in
-    let same : finer_mesh (goods_of s) s.start.grid.mesh c.args.factor ≡ finer_mesh c.goods-goods.result c.mesh.result c.args.factor
-    = ap (λ g. finer_mesh g s.start.grid.mesh c.args.factor) (sym c.goods-goods.ensures) ∙ ap (λ D. finer_mesh c.goods-goods.result D c.args.factor) (sym c.mesh.ensures) in
+    let same = ap₂ (λ g D. finer_mesh g D c.args.factor) (sym c.goods-goods.ensures) (sym c.mesh.ensures) in
     rw (p.1, p.2)
     (refine-no-mesh _ _ o (b.met.T.Triangulation.lawful c.args.self.now.tri.now) calls came.path came.leads _ _ c.args.factor (view_of s) came.shows c.in_ok-dropped.dropped
     (sym c.in_ok-dropped.ensures) _ (same ∙ sym c.in_err-mesh.ensures) s refl)
@@ -35,9 +34,7 @@ pub returns-in_err-point : goal.returns-in_err-point
 returns-in_err-point b c = λ o calls came.
     let s = c.args.self.now.state in
     let law = b.met.T.Triangulation.lawful c.args.self.now.tri.now in
-    let same : finer_mesh (goods_of s) s.start.grid.mesh c.args.factor ≡ finer_mesh c.goods-goods.result c.mesh.result c.args.factor
-    = ap (λ g. finer_mesh g s.start.grid.mesh c.args.factor) (sym c.goods-goods.ensures) ∙ ap (λ D. finer_mesh c.goods-goods.result D c.args.factor) (sym c.mesh.ensures) in
-    let finer = same ∙ sym c.in_ok-mesh.ensures in
+    let finer = ap₂ (λ g D. finer_mesh g D c.args.factor) (sym c.goods-goods.ensures) (sym c.mesh.ensures) ∙ sym c.in_ok-mesh.ensures in
     let start = scaled-start _ _ o law calls came.path came.leads _ _ c.args.factor (view_of s) came.shows c.in_ok-dropped.dropped (sym c.in_ok-dropped.ensures)
     c.in_ok-mesh.mesh finer c.in_ok-prices.prices c.in_ok-prices.ensures c.scaled-start.result c.goods-goods.result c.goods-goods.ensures s.start.grid.goods_fit.1 c.scaled-start.ensures in
     absurd (no-refusal _ _ o law calls came.path came.leads _ _ c.args.factor (view_of s) came.shows c.in_ok-dropped.dropped (sym c.in_ok-dropped.ensures)
@@ -48,9 +45,7 @@ pub returns : goal.returns
 returns b c = λ o calls came.
     let s = c.args.self.now.state in
     let law = b.met.T.Triangulation.lawful c.args.self.now.tri.now in
-    let same : finer_mesh (goods_of s) s.start.grid.mesh c.args.factor ≡ finer_mesh c.goods-goods.result c.mesh.result c.args.factor
-    = ap (λ g. finer_mesh g s.start.grid.mesh c.args.factor) (sym c.goods-goods.ensures) ∙ ap (λ D. finer_mesh c.goods-goods.result D c.args.factor) (sym c.mesh.ensures) in
-    let finer = same ∙ sym c.in_ok-mesh.ensures in
+    let finer = ap₂ (λ g D. finer_mesh g D c.args.factor) (sym c.goods-goods.ensures) (sym c.mesh.ensures) ∙ sym c.in_ok-mesh.ensures in
     let start = scaled-start _ _ o law calls came.path came.leads _ _ c.args.factor (view_of s) came.shows c.in_ok-dropped.dropped (sym c.in_ok-dropped.ensures)
     c.in_ok-mesh.mesh finer c.in_ok-prices.prices c.in_ok-prices.ensures c.scaled-start.result c.goods-goods.result c.goods-goods.ensures s.start.grid.goods_fit.1 c.scaled-start.ensures in
     begins-there _ _ o law calls came.path came.leads _ _ c.args.factor (view_of s) came.shows c.in_ok-dropped.dropped (sym c.in_ok-dropped.ensures)
