@@ -8,7 +8,7 @@ use lib.Dec.{eqb_refl}
 use Rattle.mesh.specs.Prices.{price}
 use Rattle.mesh.specs.Range.{fit_goods, fit_mesh}
 use Rattle.labelling.specs.Labels.{Rule, Proper}
-use Rattle.cells.specs.Corners.{Wall, outer_wall, real_wall, good_wall}
+use Rattle.cells.specs.Corners.{outer_wall, real_wall, good_wall}
 use Rattle.cells.specs.Triangulation.{Shape, Across, wall, moved, Mesh}
 use Rattle.path.specs.Path.{Opening, step, Leg, Stage, walking, arrived, halted, began, went, ticket, named, Path, total_of, limit, stepped, enters, begins, prices_on, label_on, DropsOn, across_on, Steps, halts, arrives, moves, Leads}
 

@@ -1,5 +1,5 @@
 -- Worked examples of the definitions, in one list.
-use Rattle.std.specs.Prelude.{◌≡◌, ℕ, true, false, cond, List, [], ◌∷◌, ℤ, pos, negsuc, ◌==◌}
+use Rattle.std.specs.Prelude.{◌≡◌, ℕ, true, false, cond, List, [], ◌∷◌, pos, negsuc, ◌==◌}
 use Rattle.mesh.specs.Prices.{to_levels, to_prices}
 use Rattle.trade.specs.Trade.{Trader, excess, market_label}
 use Rattle.layout.specs.Layout.{Economy, file_of}
@@ -8,7 +8,7 @@ use Rattle.cells.specs.Counting.{bound}
 use Rattle.cells.specs.Triangulation.{Shape, wall, moved, Mesh}
 use Rattle.labelling.specs.Labels.{Rule}
 use Rattle.labelling.specs.Sheets.{sheet_rule}
-use Rattle.path.specs.Path.{Opening, Call, step, Answer, ticket, named, Path, count_of, Leads}
+use Rattle.path.specs.Path.{Opening, Call, step, ticket, named, Path, count_of, Leads}
 use Rattle.todd_laws.specs.K1.{k1}
 use Rattle.todd_laws.specs.J1.{j1}
 
