@@ -1,6 +1,6 @@
 // Reading the record of a run.
-ghost use Rattle.std.specs.Prelude.{◌≡◌, ◌<◌, ◌≤◌, not, ◌&&◌, take, replicate, MatchOption, ◌==◌};
-ghost use Rattle.state.specs.Views.{view_of, goods_of, stage_of, walks_at, arrived_at, levels_at, label_at, is_proper, NoCarrier, Carrier};
+ghost use Rattle.std.specs.Prelude.{◌≡◌, ◌<◌, ◌≤◌, take, replicate, MatchOption};
+ghost use Rattle.state.specs.Views.{view_of, goods_of, stage_of, walks_at, arrived_at, levels_at, is_proper, NoCarrier, Carrier};
 
 use super::{Stage, State};
 use crate::corner::is_proper;

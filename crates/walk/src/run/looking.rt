@@ -1,5 +1,5 @@
 // Looking.
-ghost use Rattle.std.specs.Prelude.{◌≡◌, ◌≤◌, MatchResult};
+ghost use Rattle.std.specs.Prelude.{◌≡◌, MatchResult};
 ghost use Rattle.path.specs.Path.{look, look_for, sight};
 ghost use Rattle.state.specs.Views.{view_of, goods_of, sight_of, NoCarrier};
 ghost use Rattle.walk.specs.Answers.{looked, found};

@@ -1,8 +1,8 @@
 // Refining.
-ghost use Rattle.std.specs.Prelude.{◌≡◌, ◌*◌};
+ghost use Rattle.std.specs.Prelude.{◌≡◌};
 ghost use Rattle.mesh.specs.Refusals.{answered};
 ghost use Rattle.path.specs.Path.{refine};
-ghost use Rattle.state.specs.Views.{view_of, goods_of};
+ghost use Rattle.state.specs.Views.{view_of};
 ghost use Rattle.walk.specs.Answers.{refined, made_finer, after, HandedBack};
 ghost use Rattle.walk.specs.Records.{accepting, finer_mesh};
 ghost use Rattle.walk.specs.Showing.{Makes};
