@@ -1,6 +1,6 @@
 // The lines of a walk.
-ghost use Rattle.std.specs.Prelude.{◌≡◌, map, take, IfOk, Some, string_bytes, decimal};
-ghost use Rattle.lines.specs.Lines.{spaced, open_text, blocks, arrival_text};
+ghost use Rattle.std.specs.Prelude.{◌≡◌, map, take, IfOk, Some, string_bytes};
+ghost use Rattle.lines.specs.Lines.{open_text, blocks, arrival_text};
 
 use crate::spaced::Spaced;
 use std::alloc::{AllocError, Global};

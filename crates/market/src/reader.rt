@@ -1,5 +1,5 @@
 // Reading a market file.
-ghost use Rattle.std.specs.Prelude.{◌≡◌, ◌+◌, ◌<◌, ◌≤◌, false, ◌&&◌, length, MatchResult, ◌==◌, nat_lt};
+ghost use Rattle.std.specs.Prelude.{◌≡◌, ◌+◌, ◌<◌, false, ◌&&◌, length, MatchResult, ◌==◌, nat_lt};
 ghost use Rattle.mesh.specs.Refusals.{told};
 ghost use Rattle.layout.specs.Faults.{FieldFault};
 ghost use Rattle.market.specs.Held.{Held};

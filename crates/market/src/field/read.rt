@@ -4,7 +4,7 @@ ghost use Rattle.std.specs.List.{list_all};
 ghost use Rattle.layout.specs.Faults.{tag_due, length_fits, value_fits};
 ghost use Rattle.layout.specs.Layout.{printing};
 ghost use Rattle.mesh.specs.Refusals.{answered};
-ghost use Rattle.market.specs.Fields.{due_of, due_tag, field_of, field_for};
+ghost use Rattle.market.specs.Fields.{due_of, field_of, field_for};
 
 use super::{Due, Field};
 use mesh::refusal::Refusal;

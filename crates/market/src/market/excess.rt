@@ -1,5 +1,5 @@
 // What is demanded and supplied of a good, and the excess.
-ghost use Rattle.std.specs.Prelude.{◌≡◌, ℕ, ◌*◌, ◌≤◌, ◌&&◌, length, pos, ◌-ℤ◌, [], MatchResult, ◌≢◌, sum, ◌==◌};
+ghost use Rattle.std.specs.Prelude.{◌≡◌, ◌*◌, ◌≤◌, ◌&&◌, length, pos, ◌-ℤ◌, [], MatchResult, ◌≢◌, sum, ◌==◌};
 ghost use Rattle.trade.specs.Trade.{dot, demand, supply, owned_in_all, excess, clears};
 ghost use Rattle.mesh.specs.Refusals.{answered, told};
 ghost use Rattle.mesh.specs.Points.{goods_of, mesh_of, prices_of};

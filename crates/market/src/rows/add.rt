@@ -1,9 +1,7 @@
 // Adding what one field says.
-ghost use Rattle.std.specs.Prelude.{◌≡◌, ℕ, ◌+◌, ◌*◌, ◌<◌, ◌≤◌, true, ◌++◌, length, take, sum, ◌==◌, slice_index};
-ghost use Rattle.std.specs.List.{flat_map};
-ghost use Rattle.layout.specs.Layout.{two};
+ghost use Rattle.std.specs.Prelude.{◌≡◌, ℕ, ◌+◌, ◌*◌, ◌<◌, ◌≤◌, length, take, sum, ◌==◌, slice_index};
 ghost use Rattle.market.specs.Fields.{due_of};
-ghost use Rattle.market.specs.Rows.{cut, short};
+ghost use Rattle.market.specs.Rows.{cut};
 ghost use Rattle.market.specs.Adding.{Written, unsaid, due_in, with_goods, with_name, with_sum, with_trader};
 
 use super::{Numbers, Span, Trader};
