@@ -1,17 +1,15 @@
 -- The pair of numbers that tells what lies across a place tells just that.
 --   reads-back               for walls of at most 8 goods, the way that the pair tells is that to what lies across
 --   across-moved, -stopped   what lies across, by the way to it
---   says-numbers             a way to what lies across gives the pair
 use Rattle.std.proofs.Common.{◌≡◌, ℕ, ◌≤◌, eqb, sym, refl, ap, ◌∙◌, subst, arith}
 use Rattle.std.proofs.lemmas.Bool.{ne_eqb, cond-false}
 use Rattle.cells.specs.Corners as corners
 use Rattle.cells.specs.Corners.{outer_wall, real_wall, good_wall, IsWall}
 use Rattle.cells.specs.Triangulation.{Shape, Across, wall, moved}
-use Rattle.cells.specs.Cells.{crossing, wall_code}
-use Rattle.cells.specs.Ways.{wall_of, numbers_of, way_of, Says}
+use Rattle.cells.specs.Cells.{crossing}
+use Rattle.cells.specs.Ways.{wall_of, way_of, Says}
 use Rattle.cells.specs.declared.wall.Wall.{Wall}
 use Rattle.cells.specs.declared.wall.Wall.TheVariants.{Good}
-use Rattle.cells.specs.declared.wall.Way.{Way}
 use Rattle.cells.specs.declared.wall.Way.TheVariants.{Moved, Stopped}
 
 -- A number that is no other wall's tells the wall of that good.
@@ -35,9 +33,3 @@ across-moved j (wall v) says = absurd says
 pub across-stopped : (w : Wall) (a : Across Shape) → Says (Stopped w) a → a ≡ wall (wall_of w)
 across-stopped w (moved b k) says = absurd says
 across-stopped w (wall v) says = ap wall (sym says)
-
-pub says-numbers : (i : ℕ) (w : Way) (a : Across Shape) → Says w a → numbers_of i w ≡ crossing i a
-says-numbers i (Moved j) (moved b k) says = ap (λ n. (n, 0)) says
-says-numbers i (Moved j) (wall v) says = absurd says
-says-numbers i (Stopped w) (moved b k) says = absurd says
-says-numbers i (Stopped w) (wall v) says = ap (λ u. (i, wall_code u)) says

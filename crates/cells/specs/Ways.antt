@@ -1,5 +1,6 @@
 -- Walls as the code names them, and the pair of numbers that tells what lies across a place.
 --   wall_of      the wall that the code means
+--   place_of     the place that is told of a way
 --   numbers_of   the pair of numbers that tells a way across a place
 --   way_of       the way that a pair of numbers tells
 --   Says         the way is that to what lies across

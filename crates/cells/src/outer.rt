@@ -5,10 +5,10 @@ ghost use Rattle.mesh.specs.Prices.{first};
 ghost use Rattle.cells.specs.Corners.{Corner, outer_label, LabelsOuter};
 
 use mesh::point::PricePoint;
-use mesh::pricing::prices_of;
+use mesh::pricing::to_prices;
 
 // The first place where a price is strictly above that of the start.
-fn first_above(start: &[u32], prices: &[u32]) -> Option<usize>
+fn place_above(start: &[u32], prices: &[u32]) -> Option<usize>
     ensures { MatchOption result ((k : ℕ) → k < length start.now → k < length prices.now → slice_index prices.now k ≤ slice_index start.now k) (λ j. (j < length start.now) × (j < length prices.now) × (slice_index start.now j < slice_index prices.now j) × ((k : ℕ) → k < j → slice_index prices.now k ≤ slice_index start.now k)) }
 {
     start
@@ -23,8 +23,8 @@ pub fn outer_label(start: &PricePoint, levels: &[u32]) -> u8
     ensures value { result ≡ outer_label (prices_of start.now) levels.now }
     ensures found { Corner (goods_of start.now) (mesh_of start.now) levels.now → first levels.now ≡ suc (mesh_of start.now) → LabelsOuter (goods_of start.now) (prices_of start.now) levels.now result }
 {
-    let prices = prices_of(levels);
-    match first_above(start.prices(), &prices) {
+    let prices = to_prices(levels);
+    match place_above(start.prices(), &prices) {
         Some(j) => j as u8 + 1,
         None => 0,
     }

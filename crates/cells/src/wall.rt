@@ -11,7 +11,7 @@ pub enum Wall {
     Good(u8),
 }
 
-// The cell across a place, with the place of its new corner, or the wall there.
+// What lies across a place: a cell, told by the place of its new corner there, or a wall.
 #[derive(Clone, Copy, Debug, PartialEq, Eq)]
 pub enum Way {
     Moved(usize),

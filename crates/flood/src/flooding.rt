@@ -42,7 +42,7 @@ impl<'a, T: Triangulation> Flood<'a, T> {
         self.tri.start(&point)
     }
 
-    // What lies across a place of a cell, with the cell there, if there is no wall.
+    // What lies across a place of a cell, with the cell that one is in then: the one across, or at a wall the same.
     pub fn across(&self, cell: &Cell, place: usize) -> Result<(Cell, Way), Refusal> {
         let mut next = *cell;
         let pair = self.tri.across(self.grid, &mut next, place)?;

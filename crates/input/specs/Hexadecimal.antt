@@ -1,6 +1,6 @@
 -- What hexadecimal digits stand for.
 --   digit               the value of one
---   byte_of, bytes_of    the byte of two, the bytes of many
+--   byte_of, decoded     the byte of two, the bytes of many
 use Rattle.std.specs.Prelude.{ℕ, ◌+◌, ◌-◌, ◌*◌, ◌&&◌, leb, List, [], ◌∷◌, cond}
 
 -- 0 to 9 and a to f; any other character is worth 0.
@@ -13,6 +13,6 @@ byte_of (high ∷ low ∷ rest) = digit high * 16 + digit low
 byte_of _ = 0
 
 -- A byte for each two digits; an odd last digit counts nothing.
-abbrev pub bytes_of : List ℕ → List ℕ
-bytes_of (high ∷ low ∷ rest) = byte_of (high ∷ low ∷ []) ∷ bytes_of rest
-bytes_of _ = []
+abbrev pub decoded : List ℕ → List ℕ
+decoded (high ∷ low ∷ rest) = byte_of (high ∷ low ∷ []) ∷ decoded rest
+decoded _ = []

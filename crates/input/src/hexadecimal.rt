@@ -1,6 +1,6 @@
 // Bytes that are written as pairs of hexadecimal digits.
 ghost use Rattle.std.specs.Prelude.{◌≡◌, ◌≤◌, take, length};
-ghost use Rattle.input.specs.Hexadecimal.{digit, byte_of, bytes_of};
+ghost use Rattle.input.specs.Hexadecimal.{digit, byte_of, decoded};
 
 // The value of a digit; 0 for any other character.
 fn digit(c: u8) -> u8
@@ -23,7 +23,7 @@ fn byte_of(pair: &[u8; 2]) -> u8
 
 // Writes the bytes that the digits stand for, as many as there is room for, and answers them.
 pub fn decode<'r>(digits: &[u8], room: &'r mut [u8]) -> &'r [u8]
-    ensures bytes { result.now ≡ take (length room.old) (bytes_of digits.now) }
+    ensures bytes { result.now ≡ take (length room.old) (decoded digits.now) }
     ensures fits { length result.now ≤ length room.old }
 {
     let (pairs, _) = digits.as_chunks::<2>();

@@ -19,7 +19,7 @@ pub fn fault_line(heap: Global, refusal: Refusal) -> Result<String, AllocError>
 
 // A name: a character for each byte.
 #[derive(Clone, Copy)]
-struct Letters<'n>(&'n [u8]);
+pub struct Letters<'n>(pub &'n [u8]);
 
 impl fmt::Display for Letters<'_> {
     ghost output = { λ n. Some (encodes n.0.now) };

@@ -8,6 +8,6 @@ mod spaced;
 mod walks;
 
 pub use errors::LineError;
-pub use heads::{fault_line, good_line, traders_line};
+pub use heads::{Letters, fault_line, good_line, traders_line};
 pub use points::point_line;
 pub use walks::{arrival_line, open_line};

@@ -15,23 +15,23 @@ use mesh::refusal::Refusal;
 use std::alloc::{AllocError, Global};
 use std::fmt;
 
-// A market at a price point of as many goods. It is printed as the excess of each good, after a blank.
+// The excesses of a market at a price point of as many goods. They are printed each after a blank.
 #[derive(Clone, Copy)]
-struct Quote<'q> {
+struct Excesses<'q> {
     market: &'q Market,
     point: &'q PricePoint,
     ghost same_goods: { goods_of point.now ≡ market.now.numbers.goods },
 }
 
-impl<'q> Quote<'q> {
+impl<'q> Excesses<'q> {
     // None where the point has another number of goods.
-    fn of(market: &'q Market, point: &'q PricePoint) -> Option<Quote<'q>>
+    fn of(market: &'q Market, point: &'q PricePoint) -> Option<Excesses<'q>>
         ensures { MatchOption result (goods_of point.now ≢ market.now.numbers.goods) (λ q. (q.market.now ≡ market.now) × (q.point.now ≡ point.now)) }
     {
         if point.goods() != market.goods() {
             return None;
         }
-        Some(Quote { market, point })
+        Some(Excesses { market, point })
     }
 
     // The excess of a good of the market.
@@ -52,7 +52,7 @@ impl<'q> Quote<'q> {
     }
 }
 
-impl fmt::Display for Quote<'_> {
+impl fmt::Display for Excesses<'_> {
     ghost output = { λ q. Some (spaced signed_decimal (excesses_at q.market.now q.point.now)) };
 
     fn fmt<W: fmt::Write>(&self, f: &mut fmt::Formatter<W>) -> fmt::Result {
@@ -67,6 +67,6 @@ impl fmt::Display for Quote<'_> {
 pub fn point_line(heap: Global, market: &Market, point: &PricePoint) -> Result<String, LineError>
     ensures { PointLine market.now point.now result }
 {
-    let quote = Quote::of(market, point).ok_or(Refusal::NotAPricePoint)?;
-    Ok(quote.line(heap)?)
+    let excesses = Excesses::of(market, point).ok_or(Refusal::NotAPricePoint)?;
+    Ok(excesses.line(heap)?)
 }

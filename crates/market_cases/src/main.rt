@@ -2,23 +2,10 @@
 #![tactic(auto)]
 
 use input::decode;
-use lines::fault_line;
+use lines::{Letters, fault_line};
 use market::file::MarketFile;
 use market::market::Market;
 use std::fmt;
-
-// The name of a good: a character for each byte.
-#[derive(Clone, Copy)]
-struct Name<'a>(&'a [u8]);
-
-impl<'a> fmt::Display for Name<'a> {
-    fn fmt<W: fmt::Write>(&self, f: &mut fmt::Formatter<W>) -> fmt::Result {
-        for b in self.0 {
-            write!(f, "{}", char::from(*b))?;
-        }
-        Ok(())
-    }
-}
 
 // What a file says: its goods and their names, the sum of the weights, its traders, and what is owned.
 #[derive(Clone, Copy)]
@@ -48,7 +35,7 @@ impl<'a> fmt::Display for Said<'a> {
                 write!(f, "|")?;
             }
             if let Ok(name) = self.file.name(good) {
-                write!(f, "{}", Name(name))?;
+                write!(f, "{}", Letters(name))?;
             }
         }
         Ok(())

@@ -1,5 +1,4 @@
 pub mod Price
-pub mod Fill
 pub mod Levels
 pub mod PointLevels
 pub mod PointPrices

@@ -16,7 +16,7 @@ pub fn price_at(levels: &[u32], j: usize) -> u32
 }
 
 // The first eight prices that levels give, with zeros after them.
-pub fn prices_of(levels: &[u32]) -> [u32; 8]
+pub fn to_prices(levels: &[u32]) -> [u32; 8]
     ensures size { length result ≡ 8 }
     ensures entries { (j : ℕ) → j < 8 → slice_index result j ≡ slice_index (to_prices levels.now) j }
     ensures prices { length levels.now ≤ 8 → take (length levels.now) result ≡ to_prices levels.now }

@@ -3,7 +3,6 @@ ghost use Rattle.std.specs.Prelude.{◌≡◌, ℕ, ◌*◌, ◌<◌, ◌≤◌,
 ghost use Rattle.state.specs.Views.{is_proper};
 
 use mesh::pricing::price_at;
-pub use mesh::pricing::prices_of;
 
 // Its levels, and its label: 0 while it has none. The entries past the goods never matter.
 #[derive(Clone, Copy)]

@@ -18,7 +18,7 @@ use mesh::refusal::Refusal;
 #[derive(Clone, Copy)]
 pub struct J1;
 
-// The direction of level j turns round, where there is such a level.
+// The direction of level j turns round. Levels count from 1; 0 is taken for 1, and past the last nothing turns.
 fn turn(cell: &mut Cell, j: u8)
     ensures { cell.new ≡ record cell.old { ups = slice_set cell.old.ups (j - 1) (not (slice_index_or cell.old.ups (j - 1) true)) } }
 {

@@ -39,7 +39,7 @@ fn raised(levels: [u32; 8]) -> [u32; 8]
     levels.map(|level| level.saturating_add(1))
 }
 
-// The numbers from the goods down to 1.
+// The numbers from the goods down to 1, with zeros after them.
 fn falling(goods: usize) -> [u8; 8]
     requires { goods ≤ 8 }
     ensures size { length result ≡ 8 }

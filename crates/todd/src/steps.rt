@@ -1,4 +1,4 @@
-// Steps that K1 and J1 share. Every function is safe for any record; what it answers is said for records that are cells.
+// Steps that K1 and J1 share. Every function is safe for any record; what corners and crossings are is said for records that are cells.
 ghost use Rattle.std.specs.Prelude.{◌≡◌, ◌+◌, ◌-◌, ◌<◌, ◌≤◌, true, take, slice_index_or};
 ghost use Rattle.std.specs.Option.{option_map};
 ghost use Rattle.cells.specs.Ways.{wall_of, place_of};
@@ -21,7 +21,7 @@ fn stepped(up: bool, x: u32) -> u32
     }
 }
 
-// Moves level j by one, where there is such a level.
+// Moves level j by one. Levels count from 1; 0 is taken for 1, and past the last nothing moves.
 pub(crate) fn shift_level(levels: &mut [u32], up: bool, j: u8)
     ensures { level levels.old j < 4294967295 → levels.new ≡ shift up levels.old j }
 {

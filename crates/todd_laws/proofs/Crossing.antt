@@ -1,4 +1,4 @@
--- What K1 and J1 share where they cross a place: orders that change, the wall that stops a level, and the places between.
+-- What K1 and J1 share where they cross a place: the wall that stops a level.
 use Rattle.std.specs.Prelude.{◌≡◌, ℕ, suc, ◌<◌, ◌≤◌, Bool, true, false, cond, List, length, Some, None, Option, slice_index, refl}
 use Rattle.std.proofs.Common.{sym, ◌∙◌, ap, subst, arith}
 use Rattle.cells.specs.Corners.{Wall}

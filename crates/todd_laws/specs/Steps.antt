@@ -1,4 +1,4 @@
--- Words that K1 and J1 share: orders of the levels, and one level of a corner that moves by one.
+-- Words that K1 and J1 share: orders of the levels, one level of a corner that moves by one, and start cells with all levels going one way.
 use Rattle.std.specs.Prelude.{◌≡◌, ℕ, zero, suc, ◌+◌, ◌-◌, ◌<◌, ◌≤◌, Bool, true, false, cond, ◌&&◌, List, [], ◌∷◌, map, length, replicate, Some, None, sum, Option, ◌==◌, slice_index, slice_set}
 use Rattle.mesh.specs.Prices.{first, to_levels}
 use Rattle.cells.specs.Corners.{Wall, outer_wall, real_wall, good_wall, Apart}

@@ -109,7 +109,9 @@ fn play_line(rt: &HostRuntime, line: &str) -> Result<(), CaseError> {
 
 fn main(rt: HostRuntime) -> io::Result<()> {
     let text = io::read_to_string(rt.alloc(), rt.stdin())?;
-    for (number, line) in (1u32..).zip(text.as_str().lines()) {
+    let mut number = 0u32;
+    for line in text.as_str().lines() {
+        number = number.saturating_add(1);
         println!(rt; "case {number}")?;
         match play_line(&rt, line) {
             Ok(()) => {}

@@ -6,7 +6,7 @@ ghost use Rattle.mesh.specs.Refusals.{answered};
 
 use super::PricePoint;
 use crate::grid::Grid;
-use crate::pricing::prices_of;
+use crate::pricing::to_prices;
 use crate::refusal::Refusal;
 use std::array;
 
@@ -59,7 +59,7 @@ impl PricePoint {
         if !fit(grid, levels) {
             return Err(Refusal::NotAPricePoint);
         }
-        let prices = prices_of(levels);
+        let prices = to_prices(levels);
         Ok(PricePoint { grid, prices })
     }
 }

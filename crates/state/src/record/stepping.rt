@@ -7,8 +7,8 @@ ghost use Rattle.path.specs.Path.{limit};
 ghost use Rattle.state.specs.Views.{view_of, goods_of, levels_at, halting, arriving, entering};
 
 use super::{Stage, State};
-use crate::corner::prices_of;
 use cells::cell::Cell;
+use mesh::pricing::to_prices;
 use mesh::refusal::Refusal;
 
 // The total from which on no cell is entered.
@@ -29,7 +29,7 @@ impl State {
         ensures prices { take (goods_of self.old) result ≡ to_prices (levels_at (view_of self.old) self.old.newest) }
     {
         let levels = self.newest_levels();
-        let prices = prices_of(&levels[0..self.start.goods()]);
+        let prices = to_prices(&levels[0..self.start.goods()]);
         self.corners.set_label(self.newest, label);
         self.stage = Stage::Halted(prices, label);
         prices

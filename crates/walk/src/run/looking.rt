@@ -9,8 +9,8 @@ ghost use Rattle.walk.specs.Showing.{Makes};
 use super::{Look, Run};
 use cells::Triangulation;
 use labelling::Labelling;
+use mesh::pricing::to_prices;
 use mesh::refusal::Refusal;
-use state::corner::prices_of;
 
 impl<'a, T: Triangulation, L: Labelling> Run<'a, T, L> {
     // All that a look shows.
@@ -47,6 +47,6 @@ impl<'a, T: Triangulation, L: Labelling> Run<'a, T, L> {
         let place = carrier.ok_or(Refusal::WayBlocked)?;
         let levels = self.state.levels_at(place);
         let goods = self.state.start.goods();
-        Ok(prices_of(&levels[0..goods]))
+        Ok(to_prices(&levels[0..goods]))
     }
 }

@@ -5,7 +5,7 @@ use Rattle.mesh.specs.Points.{prices_of}
 use Rattle.trade.specs.Trade.{excess}
 use Rattle.market.specs.Markets.{traders_of}
 use Rattle.lines.proofs.OneMore.{one_good_more}
-use Rattle.lines.proofs.points.QuoteDisplay.fmt.Goals as goal
+use Rattle.lines.proofs.points.ExcessesDisplay.fmt.Goals as goal
 
 pub loop-j-preserved : goal.loop-j-preserved
 loop-j-preserved g c = λ plain.

@@ -2,7 +2,7 @@ use Rattle.std.proofs.Common.{◌≡◌, ℕ, ◌<◌, length, get_or, rules, ar
 use Rattle.tables.proofs.Made.{made, front}
 use Rattle.mesh.specs.Prices.{to_prices}
 use Rattle.mesh.proofs.Levels.{price-is, length-prices}
-use Rattle.mesh.proofs.pricing.prices_of.Goals as goal
+use Rattle.mesh.proofs.pricing.to_prices.Goals as goal
 
 pub returns : goal.returns
 returns c =

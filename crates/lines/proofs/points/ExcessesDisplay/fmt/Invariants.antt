@@ -4,7 +4,7 @@ use Rattle.mesh.specs.Points.{prices_of}
 use Rattle.trade.specs.Trade.{excess, goods_from}
 use Rattle.market.specs.Markets.{traders_of}
 use Rattle.lines.specs.Lines.{spaced}
-use Rattle.lines.proofs.points.QuoteDisplay.fmt.Given as goal
+use Rattle.lines.proofs.points.ExcessesDisplay.fmt.Given as goal
 
 -- The excesses of the goods so far are written.
 abbrev pub invariant-loop-j : goal.invariant-loop-j
