@@ -6,20 +6,16 @@
 --                     the order of what follows, then those with each other first number
 --   count-bound       count is the bound
 --   addresses-bounded, apart-list     the theorem, over a function of the place; the same of a list of addresses
-use Rattle.std.proofs.Common.{◌≡◌, ℕ, zero, suc, ◌+◌, ◌*◌, ◌/◌, ◌%◌, ◌^◌, ◌<◌, ◌≤◌, cond, eqb, List, [], ◌∷◌, length, get_or, sym, refl, ap, ◌∙◌, ⊎_elim, suc-mul, mul-add, arith}
+use Rattle.std.proofs.Common.{◌≡◌, ℕ, zero, suc, ◌+◌, ◌*◌, ◌^◌, ◌<◌, ◌≤◌, cond, eqb, List, [], ◌∷◌, length, get_or, sym, refl, ap, ◌∙◌, ⊎_elim, suc-mul, mul-add, arith}
 use native.Mathlib.Nat.{pow-zero, pow-succ', eq-sub_of_add-eq}
-use lib.Arith.{digits_lt, digits_div, digits_mod}
+use lib.Arith.{digits_lt}
 use Rattle.std.specs.List.{AllByRecursion}
 use Rattle.std.proofs.ByRecursion.{All-get_or}
+use Rattle.std.proofs.lemmas.Nat.{same_from_place}
 use Rattle.std.proofs.lemmas.Bool.{cases_lt, cond-true, cond-false, eq-eqb, ne_eqb}
 use Rattle.cells.specs.Corners.{Apart}
 use Rattle.cells.specs.Counting.{bound, AddressesBounded}
 use Rattle.cells.proofs.Pigeons.{pigeonhole}
-
--- Two digits, the lower below p: the number tells each.
-two_digits : (p x y r s : ℕ) → r < p → s < p → x * p + r ≡ y * p + s → (x ≡ y) × (r ≡ s)
-two_digits p x y r s low high e =
-    (sym (digits_div x low) ∙ ap (λ n. n / p) e ∙ digits_div y high, sym (digits_mod x low) ∙ ap (λ n. n % p) e ∙ digits_mod y high)
 
 -- Lists with the same first number and the same rest.
 same-cons : {x y : ℕ} {xs ys : List ℕ} → x ≡ y → xs ≡ ys → ◌≡◌ {A = List ℕ} (x ∷ xs) (y ∷ ys)
@@ -50,7 +46,7 @@ digits-tell : {D g : ℕ} {xs ys : List ℕ} → Digits D g xs → Digits D g ys
 unfolding digits
 digits-tell none none e = refl
 digits-tell {D} (digit {x} {g} {xs} h n) (digit {x = y} {xs = ys} k o) e =
-    let t = two_digits (suc D ^ g) x y (digits D g xs) (digits D g ys) (digits-below n) (digits-below o) e in
+    let t = same_from_place x (digits D g xs) y (digits D g ys) (suc D ^ g) (digits-below n) (digits-below o) e in
     same-cons t.0 (digits-tell n o t.1)
 
 unfoldable count : ℕ → ℕ → ℕ
@@ -99,7 +95,7 @@ rank-tells {D} (later {x} {g} {xs} l a) (here {xs = ys} o) e =
     let h = digits-below o in absurd (omega (arith, rank-later D g x xs l, rank-here D g ys))
 rank-tells {D} (later {x} {g} {xs} l a) (later {x = y} {xs = ys} k b) e =
     let same : x * count D g + rank D g xs ≡ y * count D g + rank D g ys = omega (arith, rank-later D g x xs l, rank-later D g y ys k) in
-    let t = two_digits (count D g) x y (rank D g xs) (rank D g ys) (rank_below a) (rank_below b) same in
+    let t = same_from_place x (rank D g xs) y (rank D g ys) (count D g) (rank_below a) (rank_below b) same in
     same-cons t.0 (rank-tells a b t.1)
 
 -- The lists of which the laws speak are addresses.

@@ -10,7 +10,7 @@ use Rattle.mesh.proofs.PointLevels.{prices-size}
 use Rattle.cells.specs.Corners.{Corner, first_above, outer_label, LabelsOuter}
 
 -- The first good whose price is above, and where there is none.
-above-at : (k : ℕ) (c x : List ℕ) (j : ℕ) → j < length c → get_or c j 0 < get_or x j 0 → ((i : ℕ) → i < j → get_or x i 0 ≤ get_or c i 0)
+pub above-at : (k : ℕ) (c x : List ℕ) (j : ℕ) → j < length c → get_or c j 0 < get_or x j 0 → ((i : ℕ) → i < j → get_or x i 0 ≤ get_or c i 0)
     → first_above k c x ≡ k + suc j
 above-at k [] x j inside high low = absurd (omega arith)
 above-at k (c ∷ cs) [] j inside high low = absurd (omega arith)

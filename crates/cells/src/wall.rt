@@ -36,7 +36,7 @@ impl From<(u8, u8)> for Way {
 
     fn from((place, number): (u8, u8)) -> Way {
         match number {
-            0 => Way::Moved(place as usize),
+            0 => Way::Moved(usize::from(place)),
             9 => Way::Stopped(Wall::Outer),
             10 => Way::Stopped(Wall::Real),
             good => Way::Stopped(Wall::Good(good)),

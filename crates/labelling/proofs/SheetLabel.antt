@@ -12,9 +12,9 @@ use Rattle.labelling.specs.Sheets.{rule_of}
 use Rattle.labelling.specs.declared.sheet.Sheet.{Sheet}
 
 -- The level n of good 2 is the place of the label.
-pub sheet-label : (s : Sheet) (p : PricePoint) (n : ℕ) → goods_of p ≡ 2 → mesh_of p ≡ s.mesh → n ≡ sum (drop 1 (prices_of p))
+pub sheet_label : (s : Sheet) (p : PricePoint) (n : ℕ) → goods_of p ≡ 2 → mesh_of p ≡ s.mesh → n ≡ sum (drop 1 (prices_of p))
     → get_or s.labels n 0 ≡ rule_of s (goods_of p) (mesh_of p) (prices_of p)
-sheet-label s p n two same level =
+sheet_label s p n two same level =
     let small : n < s.mesh + 1 = omega (arith, sum_by-take-drop (λ n. n) (prices_of p) 1, p.adds_up) in
     let place : n ≡ get_or (to_levels (prices_of p)) 1 0 = level ∙ sym (level-is (prices_of p) 1 (omega (arith, prices-size p))) in
     let own : (eqb (goods_of p) 2 && eqb (mesh_of p) s.mesh) ≡ true = and_from _ _ (eq-eqb (goods_of p) 2 two) (eq-eqb (mesh_of p) s.mesh same) in

@@ -18,8 +18,8 @@ top-adds-up zero D (x ∷ xs) some top e = absurd (omega arith)
 top-adds-up (suc g) D (x ∷ xs) some top e =
     omega (arith, sum-cons x xs, sum-cons x (take g xs), sum_by-take-le (λ n. n) xs g)
 
-pub first-point : (d : Grid) (r : List ℕ) → length r ≡ 8 → get_or r 0 0 ≡ d.mesh → sum r ≡ d.mesh → IsFirst d.goods d.mesh (take d.goods r)
-first-point d r size top e =
+pub first_point : (d : Grid) (r : List ℕ) → length r ≡ 8 → get_or r 0 0 ≡ d.mesh → sum r ≡ d.mesh → IsFirst d.goods d.mesh (take d.goods r)
+first_point d r size top e =
     first-from d.goods d.mesh (take d.goods r) (simp length-take (omega arith)) (top-adds-up d.goods d.mesh r (omega arith) top e)
     (get_or-take d.goods r 0 0 (omega arith) ∙ top)
 

@@ -5,21 +5,13 @@ use Rattle.std.proofs.lemmas.List.{get_or_past}
 use Rattle.std.proofs.lemmas.Bool.Decides.{nat_tests}
 use Rattle.std.proofs.lemmas.Bool.{cases_Bool, ltb-true, ltb-false, le-ltb, cond-true, cond-false}
 use Rattle.mesh.specs.Prices.{to_prices}
-use Rattle.mesh.proofs.Levels.{price-is, length-prices}
+use Rattle.mesh.proofs.Levels.{price-is}
 use Rattle.cells.specs.Corners.{first_above, outer_label}
+use Rattle.cells.proofs.OuterLabels.{above-at}
 use Rattle.todd_laws.proofs.Family.{under, Label}
 
 abbrev Above : List ℕ → List ℕ → ℕ → Type 0
 Above c x j = (slice_index c j < slice_index x j) × ((i : ℕ) → i < j → slice_index x i ≤ slice_index c i)
-
-above-is : (k : ℕ) (c x : List ℕ) (j : ℕ) → j < length c → j < length x → Above c x j → first_above k c x ≡ suc (k + j)
-above-is k [] x j h l a = absurd (omega arith)
-above-is k (c ∷ cs) [] j h l a = absurd (omega arith)
-above-is k (c ∷ cs) (x ∷ xs) zero h l a = grind (arith, nat_tests, a.0)
-above-is k (c ∷ cs) (x ∷ xs) (suc j) h l a =
-    let e : suc (suc k + j) ≡ suc (k + suc j) = omega arith in
-    cond-false (nat_lt c x) (suc k) (first_above (suc k) cs xs) (le-ltb c x (a.1 0 (omega arith)))
-    ∙ above-is (suc k) cs xs j (omega arith) (omega arith) (a.0, λ i q. a.1 (suc i) (omega arith)) ∙ e
 
 above_low : (k : ℕ) (c x : List ℕ) (m : ℕ) → first_above k c x ≡ suc m → k ≤ m
 above_low k [] x m e = absurd (omega arith)
@@ -65,6 +57,5 @@ module _ (g : ℕ) (c v : List ℕ) (u : ℕ → ℕ) (goods : length c ≡ g) (
 
   pub label-to : (j : ℕ) → j < g → Label g (λ i. slice_index c i) u j → outer_label c v ≡ suc j
   label-to j h l =
-      let q : suc (0 + j) ≡ suc j = omega arith in
-      above-is 0 c (to_prices v) j (omega arith) (omega (arith, length-prices v))
-      (subst (λ n. slice_index c j < n) (sym (price-under j)) l.more, λ i m. subst (λ n. n ≤ slice_index c i) (sym (price-under i)) (l.least i m)) ∙ q
+      above-at 0 c (to_prices v) j (omega arith) (subst (λ n. slice_index c j < n) (sym (price-under j)) l.more)
+      (λ i m. subst (λ n. n ≤ slice_index c i) (sym (price-under i)) (l.least i m))

@@ -40,6 +40,7 @@ impl Labelling for Sheet {
 
     ghost small = { λ s g D x. sheet-byte s g D x };
 
+    #[tactic(auto, using(crate::proofs::SheetLabel::sheet_label))]
     fn label(&self, point: &PricePoint) -> u8 {
         if point.goods() != 2 || point.mesh() != self.mesh {
             return 0;

@@ -21,9 +21,7 @@ fn fall(levels: &[u32]) -> bool
 fn fit(grid: Grid, levels: &[u32]) -> bool
     ensures { result ≡ levels_fit grid.goods grid.mesh levels.now }
 {
-    levels.len() == grid.goods()
-        && levels.first().copied().unwrap_or(0) == grid.mesh()
-        && fall(levels)
+    levels.len() == grid.goods() && levels.first().copied() == Some(grid.mesh()) && fall(levels)
 }
 
 // The sum of the prices from a place on.
@@ -31,10 +29,7 @@ fn sum_from(prices: &[u32], j: usize) -> u32
     requires { sum prices.now < 2 ^ 32 }
     ensures { result ≡ sum (drop j prices.now) }
 {
-    match prices.get(j..) {
-        Some(rest) => rest.iter().sum(),
-        None => 0,
-    }
+    prices.iter().skip(j).sum()
 }
 
 impl PricePoint {

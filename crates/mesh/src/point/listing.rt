@@ -17,6 +17,7 @@ fn last_priced(prices: &[u32]) -> Option<usize>
 
 impl PricePoint {
     // The first price point: the whole mesh on good 1.
+    #[tactic(auto, using(crate::proofs::PointListing::first_point))]
     pub fn first(grid: Grid) -> PricePoint
         ensures grid { result.grid ≡ grid }
         ensures first { IsFirst grid.goods grid.mesh (prices_of result) }
@@ -39,6 +40,7 @@ impl PricePoint {
     }
 
     // Takes one from the price at that place, and puts it with all of the last good's price on the next place.
+    #[tactic(auto, using(crate::proofs::PointPrices::entry_small))]
     fn step(&self, i: usize) -> [u32; 8]
         requires { LastPriced self.now.prices (goods_of self.now - 1) i }
         ensures { result ≡ stepped self.now.prices (goods_of self.now - 1) i }
