@@ -1,21 +1,15 @@
 -- Prices of levels, and tables of prices.
 --   price-good     the price of a good is a level less the next
---   first-level    the first level of a table
 --   scaled-are     a table of prices, each so many times as large
 use Rattle.std.proofs.Common.{◌≡◌, ℕ, zero, suc, ◌+◌, ◌-◌, ◌*◌, ◌<◌, ◌≤◌, List, [], ◌∷◌, map, length, get_or, take, sym, refl, ap, ◌∙◌, arith}
 use Rattle.std.proofs.lemmas.List.{get_or-map, get_or-take, length-map, length-take-le}
 use Rattle.tables.proofs.Made.{front}
-use Rattle.mesh.specs.Prices.{price, first, to_prices}
+use Rattle.mesh.specs.Prices.{price, to_prices}
 use Rattle.mesh.proofs.Levels.{price-is}
 use Rattle.mesh.proofs.Price.{price-at}
 
 pub price-good : (u : List ℕ) (l : ℕ) → 1 ≤ l → price (to_prices u) l ≡ get_or u (l - 1) 0 - get_or u (l - 1 + 1) 0
 price-good u l low = price-at (to_prices u) l low ∙ price-is u (l - 1)
-
-pub first-level : (g : ℕ) (u : List ℕ) → 0 < g → first (take g u) ≡ get_or u 0 0
-first-level zero u low = absurd (omega arith)
-first-level (suc g) [] low = refl
-first-level (suc g) (v ∷ vs) low = refl
 
 pub scaled-are : (c g : ℕ) (x r : List ℕ) → g ≤ length x → g ≤ length r → ((k : ℕ) → k < g → get_or r k 0 ≡ c * get_or x k 0)
     → take g r ≡ map (λ n. c * n) (take g x)

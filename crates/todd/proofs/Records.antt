@@ -1,10 +1,10 @@
 -- Records that hold a cell: the entries of their tables, and one step from corner to corner.
-use Rattle.std.proofs.Common.{◌≡◌, ℕ, zero, suc, ◌+◌, ◌-◌, ◌<◌, ◌≤◌, Bool, true, false, not, cond, leb, List, [], ◌∷◌, length, get_or, take, set, sym, refl, ap, ◌∙◌, ⊎_elim, add-one, arith}
+use Rattle.std.proofs.Common.{◌≡◌, ℕ, zero, suc, ◌+◌, ◌-◌, ◌<◌, ◌≤◌, Bool, true, false, not, List, [], ◌∷◌, length, get_or, take, set, sym, refl, ap, ◌∙◌, ⊎_elim, add-one, arith}
 use Rattle.std.proofs.Math.Seq.{take-set-lt}
 use Rattle.std.proofs.lemmas.List.{get_or-take, length-take}
-use Rattle.std.proofs.lemmas.Bool.{cond_both}
 use Rattle.mesh.specs.Prices.{first, Falls}
 use Rattle.mesh.specs.declared.grid.Grid.{Grid}
+use Rattle.mesh.proofs.PointPrices.{grid-small}
 use Rattle.cells.specs.Corners.{Corner}
 use Rattle.cells.specs.Triangulation.{Shape}
 use Rattle.cells.specs.Cells.{shape_of}
@@ -30,11 +30,6 @@ falls-small (x ∷ xs) f (suc j) = omega (arith, falls-small xs f.1 j, f.0)
 
 corner-small : (g D : ℕ) (v : List ℕ) → Corner g D v → (j : ℕ) → get_or v j 0 ≤ suc D
 corner-small g D v c j = ⊎_elim (λ e. omega (arith, falls-small v c.falls j)) (λ e. omega (arith, falls-small v c.falls j)) c.top
-
-pub mesh-small : (d : Grid) → d.mesh ≤ 16384
-mesh-small d =
-    let all : cond (leb d.goods 4) 16384 128 ≤ 16384 = cond_both (leb d.goods 4) 16384 128 (λ n. n ≤ 16384) (λ e. omega arith) (λ e. omega arith) in
-    omega (arith, d.mesh_fits.1)
 
 step_small : (up : Bool) (x : ℕ) → x ≤ 16385 → step up x < 4294967295
 step_small true x h = omega arith
@@ -66,7 +61,7 @@ module _ (d : Grid) (c : Cell) (holds : Holds d c) (n : ℕ) (some : 1 ≤ n) (m
   moved_in k h up levels after e moves =
       let small = corner-small d.goods d.mesh (corner_at d c k) (holds.corners k h) (j - 1) in
       let room : level levels j < 4294967295
-      = omega (arith, small, mesh-small d, get_or-take d.goods levels (j - 1) 0 in_g, ap (λ v. get_or v (j - 1) 0) e)
+      = omega (arith, small, grid-small d, get_or-take d.goods levels (j - 1) 0 in_g, ap (λ v. get_or v (j - 1) 0) e)
       in
       ap (take d.goods) (moves room) ∙ take-shift up d.goods levels j in_g ∙ ap (λ v. shift up v j) e ∙ ap (shift up (corner_at d c k)) nth-is
 
@@ -75,7 +70,7 @@ module _ (d : Grid) (c : Cell) (holds : Holds d c) (n : ℕ) (some : 1 ≤ n) (m
       → take d.goods twice ≡ shift up (shift up s.base (nth s.order n)) (nth s.order n)
   moved_twice up once twice m1 m2 =
       let small : level c.base j ≤ 16385
-      = omega (arith, corner-small d.goods d.mesh (corner_at d c 0) (holds.corners 0 (omega arith)) (j - 1), mesh-small d, get_or-take d.goods c.base (j - 1) 0 in_g)
+      = omega (arith, corner-small d.goods d.mesh (corner_at d c 0) (holds.corners 0 (omega arith)) (j - 1), grid-small d, get_or-take d.goods c.base (j - 1) 0 in_g)
       in
       let once_is = m1 (omega arith) in
       let long : j - 1 < length c.base = omega (arith, in_g, holds.size, length-take d.goods c.base) in

@@ -7,11 +7,12 @@ use Rattle.mesh.specs.Points.{goods_of, prices_of}
 use Rattle.mesh.specs.declared.point.PricePoint.{PricePoint}
 use Rattle.mesh.proofs.Levels.{length-levels}
 use Rattle.mesh.proofs.PointLevels.{prices-size}
+use Rattle.mesh.proofs.PointPrices.{mesh-small}
 use Rattle.cells.specs.Cells.{shape_of}
 use Rattle.todd_laws.specs.Steps.{up_from, down_from, start_shape}
 use Rattle.todd.specs.Walk.{Raised}
 use Rattle.todd_laws.proofs.StartCell.{length-down, down-at}
-use Rattle.todd.proofs.Records.{shape_is, mesh-small}
+use Rattle.todd.proofs.Records.{shape_is}
 
 -- The first numbers of a rising order.
 take-up : (j n m : ℕ) → n ≤ m → take n (up_from j m) ≡ up_from j n
@@ -53,4 +54,4 @@ module _ (p : PricePoint) where
 
   pub levels-room : (levels : List ℕ) → ((j : ℕ) → j < goods_of p → get_or levels j 0 ≡ sum (drop j (prices_of p)))
       → (i : ℕ) → i < goods_of p → get_or levels i 0 < 4294967295
-  levels-room levels sums i h = omega (arith, sums i h, sum_by-take-drop (λ n. n) (prices_of p) i, p.adds_up, mesh-small p.grid)
+  levels-room levels sums i h = omega (arith, sums i h, sum_by-take-drop (λ n. n) (prices_of p) i, p.adds_up, mesh-small p)

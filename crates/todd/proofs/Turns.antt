@@ -1,18 +1,14 @@
 -- The front of an order turned by one, as the code turns it.
-use Rattle.std.proofs.Common.{◌≡◌, ℕ, suc, ◌-◌, ◌≤◌, List, [], ◌∷◌, ◌++◌, length, take, drop, ap, ◌∙◌, subst, arith}
-use Rattle.std.proofs.Math.Seq.{take-append_seam, drop-cons}
-use Rattle.std.proofs.lemmas.List.{length-append, length-take, length-drop, drop_all}
+use Rattle.std.proofs.Common.{◌≡◌, ℕ, suc, ◌-◌, ◌≤◌, List, [], ◌∷◌, ◌++◌, length, take, drop, ap, ◌∙◌, arith}
+use Rattle.std.proofs.Math.Seq.{drop-cons}
+use Rattle.std.proofs.lemmas.List.{take_at, length-append, length-take, length-drop, drop_all}
 use Rattle.todd_laws.specs.Steps.{nth}
-
--- A part as long as the front is the front.
-front : (g : ℕ) (xs ys : List ℕ) → length xs ≡ g → take g (xs ++ ys) ≡ xs
-front g xs ys e = subst (λ n. take n (xs ++ ys) ≡ xs) e (take-append_seam xs ys)
 
 pub rotated_left : (n g : ℕ) (p order : List ℕ) → n ≡ g → order ≡ drop 1 (take n p) ++ take 1 (take n p) → length (take g p) ≡ g
     → take g (order ++ drop n p) ≡ drop 1 (take g p) ++ take 1 (take g p)
 rotated_left n g p order e turned size =
     let same = ap (λ m. drop 1 (take m p) ++ take 1 (take m p)) e in
-    front g order (drop n p)
+    take_at order (drop n p) g
     (ap length (turned ∙ same) ∙ omega (arith, length-append (drop 1 (take g p)) (take 1 (take g p)), length-drop 1 (take g p), length-take 1 (take g p)))
     ∙ turned ∙ same
 
@@ -28,5 +24,5 @@ rotated_right n g p order some e turned size =
     let here : order ≡ drop (g - 1) q ++ take (g - 1) q
     = turned ∙ ap (λ m. drop (length (take m p) - 1) (take m p) ++ take (length (take m p) - 1) (take m p)) e ∙ ap (λ m. drop (m - 1) q ++ take (m - 1) q) size
     in
-    front g order (drop n p) (ap length here ∙ omega (arith, length-append (drop (g - 1) q) (take (g - 1) q), length-drop (g - 1) q, length-take (g - 1) q))
+    take_at order (drop n p) g (ap length here ∙ omega (arith, length-append (drop (g - 1) q) (take (g - 1) q), length-drop (g - 1) q, length-take (g - 1) q))
     ∙ here ∙ ap (λ l. l ++ take (g - 1) q) (last-alone g q some size)

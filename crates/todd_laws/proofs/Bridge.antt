@@ -6,8 +6,8 @@ use Rattle.std.proofs.Common.{sym, ◌∙◌, ap, subst, inl, inr, ⊎_elim, ari
 use Rattle.std.proofs.lemmas.Bool.{both_ways, cases_lt, cases_eq, eqb-true, eqb-false, eq-eqb, ne_eqb}
 use Rattle.std.proofs.lemmas.List.{get_or_past, get_or-set_same, get_or-set_other, length-set, ext_get_or, length-replicate}
 use Rattle.std.proofs.ByRecursion.{All-get_or, All-from_get_or}
-use Rattle.mesh.specs.Prices.{first, Falls}
-use Rattle.mesh.proofs.Levels.{falls_at}
+use Rattle.mesh.specs.Prices.{first}
+use Rattle.mesh.proofs.Levels.{falls_at, falls-from, falls-true}
 use Rattle.cells.specs.Corners.{Corner}
 use Rattle.cells.specs.Triangulation.{Shape}
 use Rattle.todd_laws.specs.Steps.{step, shift, nth, IsOrder}
@@ -127,15 +127,10 @@ corner-to g D v c = record {
   falls = λ j h. rw (← add-one) (falls_at v j c.falls);
 }
 
-falls-from : (v : List ℕ) → ((j : ℕ) → suc j < length v → slice_index v (suc j) ≤ slice_index v j) → Falls v
-falls-from [] h = tt
-falls-from (x ∷ []) h = (omega arith, tt)
-falls-from (x ∷ y ∷ ys) h = (h 0 (omega arith), falls-from (y ∷ ys) (λ j l. h (suc j) (omega arith)))
-
 pub corner-from : (g D : ℕ) (v : List ℕ) → length v ≡ g → fam.Corner g D (λ j. slice_index v j) → Corner g D v
 corner-from g D v e c = record {
   size = e;
-  falls = falls-from v (λ j h. c.falls j (omega arith));
+  falls = falls-true v (falls-from v (λ j h. rw add-one (c.falls j (omega arith))));
   top = elim (cases_eq (first v) D) [ inl q ↦ inl q | inr q ↦ inr (omega (arith, first-is v, c.top, c.top-most)) ];
 }
 

@@ -3,7 +3,7 @@ use Rattle.std.specs.Prelude.{◌≡◌, ℕ, zero, suc, ◌+◌, ◌-◌, ◌<�
 use Rattle.std.proofs.Common.{sym, ◌∙◌, ap, subst, inl, inr, arith}
 use Rattle.std.proofs.lemmas.List.{get_or_past}
 use Rattle.std.proofs.lemmas.Bool.Decides.{nat_tests}
-use Rattle.std.proofs.lemmas.Bool.{cases_Bool, ltb-true, ltb-false, le-ltb, cond-true, cond-false}
+use Rattle.std.proofs.lemmas.Bool.{cases_Bool, ltb-true, ltb-false, cond-true, cond-false}
 use Rattle.mesh.specs.Prices.{to_prices}
 use Rattle.mesh.proofs.Levels.{price-is}
 use Rattle.cells.specs.Corners.{first_above, outer_label}
@@ -58,4 +58,4 @@ module _ (g : ℕ) (c v : List ℕ) (u : ℕ → ℕ) (goods : length c ≡ g) (
   pub label-to : (j : ℕ) → j < g → Label g (λ i. slice_index c i) u j → outer_label c v ≡ suc j
   label-to j h l =
       above-at 0 c (to_prices v) j (omega arith) (subst (λ n. slice_index c j < n) (sym (price-under j)) l.more)
-      (λ i m. subst (λ n. n ≤ slice_index c i) (sym (price-under i)) (l.least i m))
+      (λ i m. subst (λ n. n ≤ slice_index c i) (sym (price-under i)) (l.least i m)) ∙ omega arith
