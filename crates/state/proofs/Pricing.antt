@@ -1,7 +1,7 @@
 -- Prices of levels, and tables of prices.
 --   price-good     the price of a good is a level less the next
 --   scaled-are     a table of prices, each so many times as large
-use Rattle.std.proofs.Common.{◌≡◌, ℕ, zero, suc, ◌+◌, ◌-◌, ◌*◌, ◌<◌, ◌≤◌, List, [], ◌∷◌, map, length, get_or, take, sym, refl, ap, ◌∙◌, arith}
+use Rattle.std.proofs.Common.{◌≡◌, ℕ, ◌+◌, ◌-◌, ◌*◌, ◌<◌, ◌≤◌, List, map, length, get_or, take, sym, ap, ◌∙◌, arith}
 use Rattle.std.proofs.lemmas.List.{get_or-map, get_or-take, length-map, length-take-le}
 use Rattle.tables.proofs.Made.{front}
 use Rattle.mesh.specs.Prices.{price, to_prices}

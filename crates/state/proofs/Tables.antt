@@ -4,15 +4,12 @@
 --   label-set     one label of a table is set
 --   blank-is      a table with no corner placed
 --   shifted-is    a table with one corner dropped and another put in
---   made-by       an array that a closure made, place by place
-use Rattle.std.proofs.Common.{◌≡◌, ℕ, zero, suc, ◌+◌, ◌<◌, ◌≤◌, cond, eqb, List, [], map, length, get_or, take, set, replicate, sym, ap, subst, ◌∙◌, inl, inr, arith}
-use denote.Param.Members.{Mut, Called}
+use Rattle.std.proofs.Common.{◌≡◌, ℕ, suc, ◌≤◌, cond, eqb, List, [], map, length, get_or, take, set, replicate, sym, ap, ◌∙◌, inl, inr, arith}
 use lib.ListN.{get_or-map}
 use lib.Seq.{take-nil, take-set-lt}
 use Rattle.std.proofs.lemmas.List.{get_or-take, map-set, take-replicate, length-take-le, length-map}
 use Rattle.std.proofs.lemmas.Bool.{cases_eq, cond-true, cond-false, eq-eqb, ne_eqb}
 use Rattle.std.proofs.lemmas.Bool.Decides.{nat_tests}
-use Rattle.std.specs.Array.{IsFromFnResultFrom}
 use Rattle.state.specs.declared.corner.Corner.{Corner}
 use Rattle.state.specs.Views.{corner_of, corners_of, corner_at, labelling, came_from, shifted}
 use Rattle.state.proofs.Listed.{is-listed}
@@ -64,14 +61,3 @@ shifted-is g table next d k c in_Cell room unlabelled places =
           | inr ne ↦ ap (corner_of g) (cond-false _ c (old i) (ne_eqb i k ne)) ∙ sym (corner-in g table (came_from d k i) (came-low g d k i low in_Cell ne))
               ∙ sym (cond-false _ _ _ (ne_eqb i k ne))
         ]
-
--- The closure f, which stays as it is, answers v j at each place j before m.
-pub made-by : {F B : Type 0} (g : Mut F (ℕ × Unit {0}) B) (f : F) (v : ℕ → B) (m : ℕ) → ((j : ℕ) (y : B) (q : F) → j < m → Called g f (j, tt) y q → (q ≡ f) × (y ≡ v j))
-    → (ys : List B) (n i : ℕ) (d : B) → i + n ≤ m → IsFromFnResultFrom g f ys i n → (k : ℕ) → i ≤ k → k < i + n → get_or ys k d ≡ v k
-made-by g f v m calls ys zero i d room made k low high = absurd (omega arith)
-made-by g f v m calls ys (suc n) i d room made k low high =
-    let here = calls i made.1 made.0 (omega arith) made.3 in
-    elim (cases_eq k i) [
-      | inl e ↦ ap (λ j. get_or ys j d) e ∙ made.2.1 d ∙ here.1 ∙ ap v (sym e)
-      | inr ne ↦ made-by g f v m calls ys n (i + 1) d (omega arith) (subst (λ p. IsFromFnResultFrom g p ys (i + 1) n) here.0 made.4) k (omega arith) (omega arith)
-    ]

@@ -16,7 +16,7 @@ pub fn is_proper(levels: &[u32], label: u8) -> bool
     ensures { result ≡ is_proper (length levels.now) levels.now label }
 {
     let good = usize::from(label);
-    good >= 1 && good <= levels.len() && price_at(levels, good - 1) > 0
+    (1..=levels.len()).contains(&good) && price_at(levels, good - 1) > 0
 }
 
 // So many times each price. What does not fit its type is the most that fits.

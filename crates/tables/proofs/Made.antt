@@ -8,17 +8,17 @@ use Rattle.std.specs.Fn.{Mut, Called}
 use Rattle.std.proofs.lemmas.List.{ext_get_or, get_or-take, length-take-le}
 use Rattle.std.proofs.lemmas.Bool.{cases_lt}
 
-module _ {F B : Type 0} (g : Mut F (ℕ × Unit {0}) B) (value : ℕ → B) (f : F)
-    (call : (i : ℕ) (y : B) (q : F) → Called g f (i, tt) y q → (y ≡ value i) × (q ≡ f)) where
-  pub made : (ys : List B) (n : ℕ) → IsFromFnResult g f ys n → (k : ℕ) (d : B) → k < n → get_or ys k d ≡ value k
-  made ys n e k d low = from 0 n f refl e.each k d (omega arith) (omega arith)
+module _ {F B : Type 0} (g : Mut F (ℕ × Unit {0}) B) (value : ℕ → B) (f : F) (n : ℕ)
+    (call : (i : ℕ) (y : B) (q : F) → i < n → Called g f (i, tt) y q → (y ≡ value i) × (q ≡ f)) where
+  pub made : (ys : List B) → IsFromFnResult g f ys n → (k : ℕ) (d : B) → k < n → get_or ys k d ≡ value k
+  made ys e k d low = from 0 n f refl (omega arith) e.each k d (omega arith) (omega arith)
     where
-      from : (i n : ℕ) (p : F) → p ≡ f → IsFromFnResultFrom g p ys i n → (k : ℕ) (d : B) → i ≤ k → k < i + n → get_or ys k d ≡ value k
-      from i zero p same e k d low high = absurd (omega arith)
-      from i (suc n) p same (q, y, here, called, rest) k d low high =
-          let c = call i y q (rw same at called) in
+      from : (i m : ℕ) (p : F) → p ≡ f → i + m ≤ n → IsFromFnResultFrom g p ys i m → (k : ℕ) (d : B) → i ≤ k → k < i + m → get_or ys k d ≡ value k
+      from i zero p same room e k d low high = absurd (omega arith)
+      from i (suc m) p same room (q, y, here, called, rest) k d low high =
+          let c = call i y q (omega arith) (rw same at called) in
           ⊎_elim
-          (λ later. from (i + 1) n q c.1 rest k d (omega arith) (omega arith))
+          (λ later. from (i + 1) m q c.1 (omega arith) rest k d (omega arith) (omega arith))
           (λ now. let is : k ≡ i = omega arith in rw is (here.1 d ∙ c.0))
           (cases_lt i k)
 

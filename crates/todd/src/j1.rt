@@ -6,7 +6,7 @@ ghost use Rattle.todd_laws.proofs.InFamily.{j1-in-family};
 
 use crate::member::{self, Member};
 use crate::start::{admits, is_even, start_down, start_up};
-use crate::steps::{shift_level, stop_at, upward};
+use crate::steps::{index, shift_level, stop_at, upward};
 use cells::Triangulation;
 use cells::cell::Cell;
 use cells::wall::Way;
@@ -22,7 +22,7 @@ pub struct J1;
 fn turn(cell: &mut Cell, j: u8)
     ensures { cell.new ≡ record cell.old { ups = slice_set cell.old.ups (j - 1) (not (slice_index_or cell.old.ups (j - 1) true)) } }
 {
-    let i = usize::from(j).saturating_sub(1);
+    let i = index(usize::from(j));
     if i < cell.ups.len() {
         cell.ups[i] = !cell.ups[i];
     }

@@ -21,31 +21,35 @@ fn stepped(up: bool, x: u32) -> u32
     }
 }
 
-// Moves level j by one. Levels count from 1; 0 is taken for 1, and past the last nothing moves.
+// The place of level j among the levels, which count from 1; 0 is taken for 1.
+pub(crate) fn index(j: usize) -> usize
+    ensures { result ≡ j - 1 }
+{
+    j.saturating_sub(1)
+}
+
+// Moves level j by one. Past the last nothing moves.
 pub(crate) fn shift_level(levels: &mut [u32], up: bool, j: u8)
     ensures { level levels.old j < 4294967295 → levels.new ≡ shift up levels.old j }
 {
-    let i = usize::from(j).saturating_sub(1);
+    let i = index(usize::from(j));
     if i < levels.len() {
         levels[i] = stepped(up, levels[i]);
     }
 }
 
-// Level j; 0 past the last.
-fn level(levels: &[u32], j: usize) -> u32
-    ensures { result ≡ level levels.now j }
+// What stands for level j, and what is given past the last.
+fn item<T: Copy>(items: &[T], j: usize, past: T) -> T
+    ensures { result ≡ slice_index_or items.now (j - 1) past }
 {
-    levels.get(j.saturating_sub(1)).copied().unwrap_or(0)
+    items.get(index(j)).copied().unwrap_or(past)
 }
 
 // The direction of level j.
 pub(crate) fn upward(cell: &Cell, j: u8) -> bool
     ensures { result ≡ slice_index_or cell.now.ups (j - 1) true }
 {
-    cell.ups
-        .get(usize::from(j).saturating_sub(1))
-        .copied()
-        .unwrap_or(true)
+    item(&cell.ups, usize::from(j), true)
 }
 
 // The levels of the corner at a place. From each corner to the next the next level of the order moves by one in its direction.
@@ -65,15 +69,15 @@ pub(crate) fn corner_of(grid: &Grid, cell: &Cell, place: usize) -> [u32; 8]
 fn stop(grid: &Grid, levels: &[u32], up: bool, j: u8) -> Option<Wall>
     ensures { option_map wall_of result ≡ stop grid.now.mesh up levels.now j }
 {
-    let here = level(levels, usize::from(j));
+    let here = item(levels, usize::from(j), 0);
     match (up, j) {
         (true, 1) => (here == grid.mesh() + 1).then_some(Wall::Outer),
         (true, _) => {
             let above = j.saturating_sub(1);
-            (here == level(levels, usize::from(above))).then_some(Wall::Good(above))
+            (here == item(levels, usize::from(above), 0)).then_some(Wall::Good(above))
         }
         (false, 1) if here == grid.mesh() => Some(Wall::Real),
-        (false, _) => (here == level(levels, usize::from(j) + 1)).then_some(Wall::Good(j)),
+        (false, _) => (here == item(levels, usize::from(j) + 1, 0)).then_some(Wall::Good(j)),
     }
 }
 

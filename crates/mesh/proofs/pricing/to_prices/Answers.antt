@@ -9,7 +9,7 @@ returns c =
     let u = c.args.levels.now in
     let room = c.from_fn.ensures.items.long in
     let entries : (j : ℕ) → j < 8 → get_or c.from_fn.result j 0 ≡ get_or (to_prices u) j 0
-    = λ j h. made _ (λ i. get_or (to_prices u) i 0) _ (λ i y q k. search (rules, price-is)) c.from_fn.result 8 c.from_fn.ensures.items j 0 h in
+    = λ j h. made _ (λ i. get_or (to_prices u) i 0) _ 8 (λ i y q h k. search (rules, price-is)) c.from_fn.result c.from_fn.ensures.items j 0 h in
     record {
       size = room;
       entries = entries;
