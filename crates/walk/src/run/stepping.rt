@@ -27,8 +27,7 @@ impl<'a, T: Triangulation, L: Labelling> Run<'a, T, L> {
         }
         let label = self.newest_label();
         if !self.state.is_proper(label) {
-            let prices = self.state.halt(label);
-            return Ok(Progress::Halted(prices, label));
+            return Ok(Progress::Halted(self.state.halt(label)));
         }
         let carrier = self.state.carrier(label, self.state.newest);
         let dropped = carrier.ok_or(Refusal::WayBlocked)?;
