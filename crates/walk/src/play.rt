@@ -3,7 +3,7 @@ ghost use Rattle.std.specs.Prelude.{◌≡◌, ℕ, Ok, map, reverse};
 ghost use Rattle.state.specs.Views.{goods_of};
 ghost use Rattle.walk.specs.Answers.{stepped};
 ghost use Rattle.walk.specs.Playing.{call_of, said_of, PlayAnswer};
-ghost use Rattle.walk.specs.Showing.{opening_of, Makes};
+ghost use Rattle.walk.specs.Showing.{opening_of, Makes, SameBorrows};
 
 use crate::run::{Look, Opening, Progress, Run, Ticket};
 use cells::Triangulation;
@@ -55,8 +55,8 @@ impl From<Progress> for Said {
 
 // One call, with its arguments.
 fn make<T: Triangulation, L: Labelling>(run: &mut Run<T, L>, call: Call) -> Result<Said, Refusal>
-    ensures goes { Makes (T.meaning run.old.tri.now) (L.rule run.old.labels.now) run.old.state (call_of call) (said_of (goods_of run.old.state) result) run.new.state }
-    ensures borrows { (run.new.tri.now ≡ run.old.tri.now) × (run.new.labels.now ≡ run.old.labels.now) }
+    ensures goes { Makes T.meaning L.rule run.old (call_of call) (said_of (goods_of run.old.state) result) run.new.state }
+    ensures borrows { SameBorrows run.old run.new }
 {
     match call {
         Call::Step => Ok(Said::from(run.step()?)),

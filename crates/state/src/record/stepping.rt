@@ -29,8 +29,7 @@ impl State {
         ensures prices { take (goods_of self.old) result.prices ≡ to_prices (levels_at (view_of self.old) self.old.newest) }
         ensures label { result.label ≡ label }
     {
-        let levels = self.newest_levels();
-        let prices = to_prices(&levels[0..self.start.goods()]);
+        let prices = to_prices(self.newest_levels());
         let halt = Halt { prices, label };
         self.corners.set_label(self.newest, label);
         self.stage = Stage::Halted(halt);
