@@ -92,10 +92,10 @@ fn a_foreign_mesh_halts_at_once(rt: HostRuntime) -> Result<(), Fail> {
     assert!(rt; run.look_for(3) == Err(Refusal::NoSuchGood));
     assert!(rt; run.refine(ticket, 2).is_ok());
     match run.step()? {
-        Progress::Halted(prices, label) => {
-            assert_eq!(rt; prices[0], 4);
-            assert_eq!(rt; prices[1], 4);
-            assert_eq!(rt; label, 0);
+        Progress::Halted(halt) => {
+            assert_eq!(rt; halt.prices[0], 4);
+            assert_eq!(rt; halt.prices[1], 4);
+            assert_eq!(rt; halt.label, 0);
         }
         _ => return Err(Fail::new("did not halt")),
     }
@@ -121,6 +121,6 @@ fn eight_goods_open_up_to_their_finest_mesh(rt: HostRuntime) -> Result<(), Fail>
         start: &[129, 0, 0, 0, 0, 0, 0, 0],
     };
     assert!(rt; Run::open(finest, &tri, &sheet).is_ok());
-    assert_eq!(rt; Run::open(finer, &tri, &sheet).err().is_some(), true);
+    assert!(rt; Run::open(finer, &tri, &sheet).is_err());
     Ok(())
 }

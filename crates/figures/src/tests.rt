@@ -28,8 +28,8 @@ fn market_reads_back(rt: HostRuntime) -> Result<(), Fail> {
     assert_eq!(rt; file.name_place(1)?, 7);
     assert_eq!(rt; file.name_place(2)?, 11);
     assert_eq!(rt; file.name_place(3), Err(Refusal::NoSuchGood));
-    assert_eq!(rt; file.name(0).is_err(), true);
-    assert_eq!(rt; file.name(3).is_err(), true);
+    assert!(rt; file.name(0).is_err());
+    assert!(rt; file.name(3).is_err());
     Ok(())
 }
 

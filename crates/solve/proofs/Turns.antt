@@ -22,14 +22,14 @@ use Rattle.solve.specs.Reaching.{is_move, ticket_in, more, Stopped, AllMove, Rea
 says-went : (g : ℕ) (a : Result Progress Refusal) → is_move a ≡ true → stepped g a ≡ went
 says-went g (Ok Moved) moves = refl
 says-went g (Ok (Arrived t)) moves = cc
-says-went g (Ok (Halted x l)) moves = cc
+says-went g (Ok (Halted h)) moves = cc
 says-went g (Err r) moves = cc
 
 -- A step that did not move arrived with its ticket, or did neither.
 stopped-at : (g made most : ℕ) (said : Answer) (a : Result Progress Refusal) → is_move a ≡ false → said ≡ stepped g a → Stopped (suc made) most said (ticket_in a)
 stopped-at g made most said (Ok Moved) stays is = cc
 stopped-at g made most said (Ok (Arrived t)) stays is = (omega arith, is)
-stopped-at g made most said (Ok (Halted x l)) stays is = inr (omega arith, λ e. (cc), λ number mesh e. (cc))
+stopped-at g made most said (Ok (Halted h)) stays is = inr (omega arith, λ e. (cc), λ number mesh e. (cc))
 stopped-at g made most said (Err r) stays is = inr (omega arith, λ e. (cc), λ number mesh e. (cc))
 
 -- One more step moved, since there is one path of the calls.

@@ -19,14 +19,14 @@ use Rattle.walk.specs.declared.run.Ticket.{Ticket}
 abbrev pub is_move : Result Progress Refusal → Bool
 is_move (Ok Moved) = true
 is_move (Ok (Arrived t)) = false
-is_move (Ok (Halted x l)) = false
+is_move (Ok (Halted h)) = false
 is_move (Err e) = false
 
 -- The ticket of a step that arrived.
 abbrev pub ticket_in : Result Progress Refusal → Option Ticket
 ticket_in (Ok Moved) = None
 ticket_in (Ok (Arrived t)) = Some t
-ticket_in (Ok (Halted x l)) = None
+ticket_in (Ok (Halted h)) = None
 ticket_in (Err e) = None
 
 abbrev pub more : ℕ → List Call → List Call

@@ -10,6 +10,7 @@ use market::market::Market;
 use reaching::reach;
 use std::alloc::Global;
 use std::io;
+use tables::table_of;
 use todd::k1::K1;
 use walk::run::{Opening, Run, Ticket};
 
@@ -64,8 +65,7 @@ fn finer<T: Triangulation, L: Labelling>(
 
 // Opens a run that begins with the whole mesh on good 1.
 fn open_run<'a>(tri: &'a K1, market: &'a Market) -> Result<Run<'a, K1, Market>, LineError> {
-    let mut start = [0u32; 8];
-    start[0] = MESH;
+    let start: [u32; 8] = table_of(&[MESH], 0);
     let goods = market.goods();
     let opening = Opening {
         number: 0,

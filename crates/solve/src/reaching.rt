@@ -3,7 +3,7 @@ ghost use Rattle.std.specs.Prelude.{◌≡◌, true, false, List};
 ghost use Rattle.std.specs.ControlFlow.{MatchControlFlow};
 ghost use Rattle.path.specs.Path.{Opening, Call};
 ghost use Rattle.solve.specs.Reaching.{Reaches, is_move, ticket_in};
-ghost use Rattle.walk.specs.Showing.{Came};
+ghost use Rattle.walk.specs.Showing.{Came, SameBorrows};
 
 use cells::Triangulation;
 use labelling::Labelling;
@@ -28,7 +28,7 @@ pub(crate) fn reach<T: Triangulation, L: Labelling>(
     most: u32,
 ) -> Option<Ticket>
     ensures reaches { (o : Opening) (calls : List Call) → Came (T.meaning run.old.tri.now) (L.rule run.old.labels.now) o calls run.old.state → Reaches (T.meaning run.old.tri.now) (L.rule run.old.labels.now) o calls most result run.new.state }
-    ensures borrows { (run.new.tri.now ≡ run.old.tri.now) × (run.new.labels.now ≡ run.old.labels.now) }
+    ensures borrows { SameBorrows run.old run.new }
 {
     for made in 0..most {
         if let ControlFlow::Break(ticket) = after(run.step()) {

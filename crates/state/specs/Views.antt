@@ -40,7 +40,7 @@ corners_of g table = take (suc g) (map (corner_of g) table)
 abbrev pub stage_of : ℕ → Stage → PathStage
 stage_of g Walking = walking
 stage_of g (Arrived d) = arrived d
-stage_of g (Halted x l) = halted (take g x) l
+stage_of g (Halted h) = halted (take g h.prices) h.label
 
 abbrev pub goods_of : State → ℕ
 goods_of s = s.start.grid.goods

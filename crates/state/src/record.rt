@@ -11,12 +11,19 @@ mod stepping;
 
 pub use stepping::Entry;
 
-// Where a run stands: walking; arrived, with the place of the dropped corner; halted, with the prices of the named corner and its label.
+// Where a run halted: the prices of the named corner, and its improper label.
+#[derive(Clone, Copy)]
+pub struct Halt {
+    pub prices: [u32; 8],
+    pub label: u8,
+}
+
+// Where a run stands: walking; arrived, with the place of the dropped corner; halted.
 #[derive(Clone, Copy)]
 pub enum Stage {
     Walking,
     Arrived(usize),
-    Halted([u32; 8], u8),
+    Halted(Halt),
 }
 
 // Its number, its own copy of the start point, the cell, the place of the newest corner, the cells entered on this mesh and in all, the stage, and

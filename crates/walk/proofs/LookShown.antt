@@ -16,7 +16,8 @@ use Rattle.walk.specs.Answers.{found}
 use Rattle.walk.specs.Records.{PricesOf}
 use Rattle.walk.specs.Showing.{standing, Goes}
 use Rattle.walk.proofs.Checks.{fails}
-use Rattle.walk.proofs.Shown.{arrived-is, arrived-not, corner-shown, carries, carried, goes, saying-goes}
+use Rattle.walk.proofs.Standing.{levels-shown}
+use Rattle.walk.proofs.Shown.{arrived-is, arrived-not, carries, carried, goes, saying-goes}
 
 module _ (T : (g D : ℕ) → Mesh Shape g D) (L : Rule) (o : Opening) (lawful : (g D : ℕ) → 2 ≤ g → 1 ≤ D → Lawful (T g D)) (calls : List Call) (p : Path)
     (leads : Leads T L o calls p) where
@@ -52,7 +53,7 @@ module _ (T : (g D : ℕ) → Mesh Shape g D) (L : Rule) (o : Opening) (lawful :
         let at = arrived-is p.stage d there in
         let i = one.place in
         let c = carries T L o p d at j i one.carrier in
-        let same : take o.goods x ≡ prices_on T L o p.leg i = one.prices ∙ ap to_prices (corner-shown T L o p i c.place) in
+        let same : take o.goods x ≡ prices_on T L o p.leg i = one.prices ∙ ap to_prices (levels-shown T L o p i c.place) in
         goes T L o lawful calls p leads (look_for j) (saying p (prices (prices_on T L o p.leg i)))
         (finds d i at (in-range 1 o.goods j (T_from_true (between 1 o.goods j) good)) c refl)
         (prices (take o.goods x)) (ap prices (sym same)) s shows)

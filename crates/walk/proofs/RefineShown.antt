@@ -24,8 +24,8 @@ use Rattle.walk.specs.Records.{PricesOf, accepting, finer_mesh, fresh}
 use Rattle.walk.specs.Showing.{standing, Goes}
 use Rattle.walk.proofs.Checks.{passed, tests, fails}
 use Rattle.walk.proofs.FinerStart.{sum-times, mesh-there, prices-there, times-small}
-use Rattle.walk.proofs.Shown.{arrived-is, corner-shown, carries, carried, goes}
-use Rattle.walk.proofs.Standing.{begun}
+use Rattle.walk.proofs.Shown.{arrived-is, carries, carried, goes}
+use Rattle.walk.proofs.Standing.{levels-shown, begun}
 use Rattle.walk.proofs.Tickets.{accepting-ok, accepting-err, finer-ok, finer-err}
 
 module _ (T : (g D : ℕ) → Mesh Shape g D) (L : Rule) (o : Opening) (lawful : (g D : ℕ) → 2 ≤ g → 1 ≤ D → Lawful (T g D)) (calls : List Call) (p : Path)
@@ -85,7 +85,7 @@ module _ (T : (g D : ℕ) → Mesh Shape g D) (L : Rule) (o : Opening) (lawful :
         range-in 1 (most o.goods) (f * p.leg.mesh) low mesh-fits
 
     prices-are : take o.goods x ≡ prices_on T L o p.leg one.place
-    prices-are = one.prices ∙ ap to_prices (corner-shown T L o p one.place carrier.place)
+    prices-are = one.prices ∙ ap to_prices (levels-shown T L o p one.place carrier.place)
 
     start_is : map (λ y. f * y) (take o.goods x) ≡ finer T L o p f one.place
     start_is = ap (map (λ y. f * y)) prices-are

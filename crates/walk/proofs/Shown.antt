@@ -1,21 +1,20 @@
 -- What the view of a path shows at a place, and a call that leaves it as it is.
---   corner-shown      the levels of the corner at a place
 --   arrived-is, arrived-not    the stage is that of an arrival, or of none
 --   label-shown       where the path has arrived, every place shows its label
 --   carries           so a carrier of a label is a kept corner with it
 --   carried           and each good has one
 --   goes              one more call, by the path that it makes
 --   saying-goes       a call that alters nothing but the answer
-use Rattle.std.proofs.Common.{◌≡◌, ℕ, suc, ◌≤◌, Bool, true, false, cond, eqb, List, [], ◌∷◌, Some, None, sym, refl, ap, ◌∙◌, arith}
+use Rattle.std.proofs.Common.{◌≡◌, ℕ, ◌≤◌, cond, eqb, List, ◌∷◌, Some, None, sym, refl, ap, ◌∙◌, arith}
 use Rattle.labelling.specs.Labels.{Rule}
 use Rattle.cells.specs.Triangulation.{Shape, Mesh, Lawful}
-use Rattle.path.specs.Path.{Opening, Call, Answer, Stage, walking, arrived, halted, Path, Good, saying, corner_on, label_on, newest_shown, shown, Carries, Does, Leads}
+use Rattle.path.specs.Path.{Opening, Call, Answer, Stage, walking, arrived, halted, Path, Good, saying, label_on, newest_shown, Carries, Does, Leads}
 use Rattle.path.proofs.OneLeg.{real-label}
 use Rattle.path.proofs.Theorems.{claimed}
-use Rattle.state.specs.Views.{view_of, corner_at, levels_at, label_at, arrived_at, Carrier, NoCarrier}
+use Rattle.state.specs.Views.{view_of, label_at, arrived_at, Carrier, NoCarrier}
 use Rattle.state.specs.declared.record.State.{State}
 use Rattle.walk.specs.Showing.{standing, Goes}
-use Rattle.state.proofs.Listed.{listed-get_or}
+use Rattle.walk.proofs.Standing.{cond_same, corner-shown}
 
 pub arrived-is : (stage : Stage) (d : ℕ) → arrived_at stage ≡ Some d → stage ≡ arrived d
 arrived-is walking d e = let z : ◌≡◌ {A = ℕ} 0 1 = cc in absurd (omega arith)
@@ -25,24 +24,14 @@ arrived-is (halted x l) d e = let z : ◌≡◌ {A = ℕ} 0 1 = cc in absurd (om
 pub arrived-not : (stage : Stage) (d : ℕ) → arrived_at stage ≡ None → stage ≡ arrived d → ⊥
 arrived-not stage d e is = let z : ◌≡◌ {A = ℕ} 0 1 = cc in omega arith
 
-same-both : {A : Type 0} (b : Bool) (x : A) → cond b x x ≡ x
-same-both true x = refl
-same-both false x = refl
-
 module _ (T : (g D : ℕ) → Mesh Shape g D) (L : Rule) (o : Opening) (p : Path) where
-  corner-at : (i : ℕ) → i ≤ o.goods → corner_at (standing T L o p).sight.corners i ≡ (corner_on T L o p.leg i, shown T L o p i)
-  corner-at i h = listed-get_or (suc o.goods) (λ i. (corner_on T L o p.leg i, shown T L o p i)) i ([], 0) (omega arith)
-
-  pub corner-shown : (i : ℕ) → i ≤ o.goods → levels_at (standing T L o p) i ≡ corner_on T L o p.leg i
-  corner-shown i h = ap (λ c. c.0) (corner-at i h)
-
   module _ (d : ℕ) (there : p.stage ≡ arrived d) where
     pub label-shown : (i : ℕ) → i ≤ o.goods → label_at (standing T L o p) i ≡ label_on T L o p.leg i
     label-shown i h =
         let n = label_on T L o p.leg i in
-        ap (λ c. c.1) (corner-at i h)
+        ap (λ c. c.1) (corner-shown T L o p i h)
         ∙ ap (λ stage. cond (eqb i p.leg.newest) (newest_shown T L o stage n) n) there
-        ∙ same-both (eqb i p.leg.newest) n
+        ∙ cond_same (eqb i p.leg.newest) n
 
     pub carries : (j i : ℕ) → Carrier (standing T L o p) j d i → Carries T L o p.leg d j i
     carries j i c = record { place = c.0; kept = c.1; has = sym (label-shown i c.0) ∙ c.2 }

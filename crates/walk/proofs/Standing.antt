@@ -1,5 +1,6 @@
 -- A run that stands where its path stands.
 --   begun             a run that begins on a mesh stands where a path does that begins there
+--   cond_same         a choice between the same
 --   cell-there        it stands in a cell
 --   newest-corner     its newest corner is a corner
 --   corner-shown, levels-shown, label-shown, label-now    what its view shows at a place
@@ -28,6 +29,10 @@ use Rattle.state.proofs.Listed.{listed-get_or, listed-ext}
 cond-else : {A : Type 0} (b : Bool) (x y z : A) → (b ≡ false → y ≡ z) → cond b x y ≡ cond b x z
 cond-else true x y z e = refl
 cond-else false x y z e = e refl
+
+pub cond_same : {A : Type 0} (b : Bool) (x : A) → cond b x x ≡ x
+cond_same true x = refl
+cond_same false x = refl
 
 -- In the start cell of a point all other corners have outer labels.
 start-label : {g D : ℕ} (M : Mesh Shape g D) (L : Rule) (x : List ℕ) → Lawful M → Holds (M.admitted x)

@@ -18,11 +18,7 @@ use Rattle.cells.proofs.Places.{among, among_below, skip-le, skip-among}
 use Rattle.state.specs.Views.{Labelled, corner_at, with, labelling, halting, arriving, came_from, shifted, entering}
 use Rattle.walk.specs.Showing.{standing}
 use Rattle.state.proofs.Listed.{listed-get_or, listed-ext, listed-altered}
-use Rattle.walk.proofs.Standing.{levels-shown}
-
-cond_same : {A : Type 0} (b : Bool) (x : A) → cond b x x ≡ x
-cond_same true x = refl
-cond_same false x = refl
+use Rattle.walk.proofs.Standing.{cond_same, levels-shown}
 
 -- The corner at a place: the new one, with no label, or one that is kept with its label.
 placed : (b : Bool) (new u : List ℕ) (l : ℕ) (c : Labelled) → (b ≡ true → new ≡ u) → (b ≡ false → c ≡ (u, l)) → cond b (new, 0) c ≡ (u, cond b 0 l)

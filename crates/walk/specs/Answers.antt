@@ -14,7 +14,7 @@ use Rattle.walk.specs.declared.run.Ticket.{Ticket}
 abbrev pub stepped : ℕ → Result Progress Refusal → Answer
 stepped g (Ok Moved) = went
 stepped g (Ok (Arrived t)) = ticket t.number t.mesh
-stepped g (Ok (Halted x l)) = named (take g x) l
+stepped g (Ok (Halted h)) = named (take g h.prices) h.label
 stepped g (Err e) = refused (told e)
 
 -- What a look shows.

@@ -28,7 +28,7 @@ abbrev pub said_of : ℕ → Result Said Refusal → Answer
 said_of g (Ok Began) = began
 said_of g (Ok Moved) = went
 said_of g (Ok (Arrived number mesh)) = ticket number mesh
-said_of g (Ok (Halted x l)) = named (take g x) l
+said_of g (Ok (Halted h)) = named (take g h.prices) h.label
 said_of g (Ok (Seen k)) = sight (looked k)
 said_of g (Ok (Found x)) = prices (take g x)
 said_of g (Err e) = refused (told e)

@@ -4,7 +4,8 @@
 --   Came        the record came from an opening and calls
 --   Goes        one more call: its answer, and the record that it leaves
 --   opened      what opening answers
---   Makes       a call on a run's record: what it answers and leaves, wherever the run came from
+--   Makes       a call on a run: what it answers and leaves, wherever the run came from
+--   SameBorrows    two runs over the same triangulation and labelling
 use Rattle.std.specs.Prelude.{◌≡◌, ℕ, List, [], ◌∷◌, Ok, Result}
 use Rattle.mesh.specs.Range.{fit_goods, fit_mesh, prices_add_up}
 use Rattle.mesh.specs.Refusals.{Told, insist}
@@ -15,6 +16,7 @@ use Rattle.path.specs.Path.{Opening as PathOpening, Call, Answer, walking, began
 use Rattle.state.specs.Views.{View, view_of}
 use Rattle.state.specs.declared.record.State.{State}
 use Rattle.walk.specs.declared.run.Opening.{Opening}
+use Rattle.walk.specs.declared.run.Run.{Run}
 
 abbrev pub opening_of : Opening → PathOpening
 opening_of o = record { number = o.number; goods = o.goods; mesh = o.mesh; start = o.start.now }
@@ -48,6 +50,11 @@ module _ (T : (g D : ℕ) → Mesh Shape g D) (L : Rule) (o : PathOpening) where
       insist (fit_goods o.goods) 1 (insist (fit_mesh o.goods o.mesh) 2 (insist (prices_add_up o.goods o.mesh o.start) 3
       (insist ((T o.goods o.mesh).admitted o.start) 4 (Ok (standing opening)))))
 
--- Whatever opening and calls the record s came from: one more call was made on it, which answered a and left the record t.
-abbrev pub Makes : ((g D : ℕ) → Mesh Shape g D) → Rule → State → Call → Answer → State → Type 0
-Makes T L s call a t = (o : PathOpening) (calls : List Call) → Came T L o calls s → Goes T L o calls call a t
+-- Whatever opening and calls the record of the run r came from: one more call was made on it, which answered a and left the record t.
+abbrev pub Makes : {A B : Type 0} → (A → (g D : ℕ) → Mesh Shape g D) → (B → Rule) → Run A B → Call → Answer → State → Type 0
+Makes meaning rule r call a t =
+    (o : PathOpening) (calls : List Call) → Came (meaning r.tri.now) (rule r.labels.now) o calls r.state → Goes (meaning r.tri.now) (rule r.labels.now) o calls call a t
+
+-- The run w borrows the triangulation and the labelling that the run v does.
+abbrev pub SameBorrows : {A B : Type 0} → Run A B → Run A B → Type 0
+SameBorrows v w = (w.tri.now ≡ v.tri.now) × (w.labels.now ≡ v.labels.now)

@@ -3,12 +3,13 @@ ghost use Rattle.std.specs.Prelude.{◌≡◌, ℕ, Ok, map, reverse};
 ghost use Rattle.state.specs.Views.{goods_of};
 ghost use Rattle.walk.specs.Answers.{stepped};
 ghost use Rattle.walk.specs.Playing.{call_of, said_of, PlayAnswer};
-ghost use Rattle.walk.specs.Showing.{opening_of, Makes};
+ghost use Rattle.walk.specs.Showing.{opening_of, Makes, SameBorrows};
 
 use crate::run::{Look, Opening, Progress, Run, Ticket};
 use cells::Triangulation;
 use labelling::Labelling;
 use mesh::refusal::Refusal;
+use state::record::Halt;
 
 // A call on a run. Refining names its ticket by the run number and the mesh on it.
 #[derive(Clone, Copy)]
@@ -16,17 +17,16 @@ pub enum Call {
     Step,
     Look,
     LookFor(usize),
-    Refine(u16, u32, u32),
+    Refine { number: u16, mesh: u32, factor: u32 },
 }
 
-// What a granted call answered: the run began; the step moved; it arrived, with the run number and the mesh of the ticket; it halted at a corner, named by
-// its prices, with its improper label; what a look shows; the prices that were looked for.
+// What a granted call answered: the run began; the step moved; it arrived, with the run number and the mesh of the ticket; it halted; what a look shows; the prices that were looked for.
 #[derive(Clone, Copy)]
 pub enum Said {
     Began,
     Moved,
-    Arrived(u16, u32),
-    Halted([u32; 8], u8),
+    Arrived { number: u16, mesh: u32 },
+    Halted(Halt),
     Seen(Look),
     Found([u32; 8]),
 }
@@ -44,22 +44,29 @@ impl From<Progress> for Said {
     fn from(progress: Progress) -> Said {
         match progress {
             Progress::Moved => Said::Moved,
-            Progress::Arrived(ticket) => Said::Arrived(ticket.number(), ticket.mesh()),
-            Progress::Halted(prices, label) => Said::Halted(prices, label),
+            Progress::Arrived(ticket) => Said::Arrived {
+                number: ticket.number(),
+                mesh: ticket.mesh(),
+            },
+            Progress::Halted(halt) => Said::Halted(halt),
         }
     }
 }
 
 // One call, with its arguments.
 fn make<T: Triangulation, L: Labelling>(run: &mut Run<T, L>, call: Call) -> Result<Said, Refusal>
-    ensures goes { Makes (T.meaning run.old.tri.now) (L.rule run.old.labels.now) run.old.state (call_of call) (said_of (goods_of run.old.state) result) run.new.state }
-    ensures borrows { (run.new.tri.now ≡ run.old.tri.now) × (run.new.labels.now ≡ run.old.labels.now) }
+    ensures goes { Makes T.meaning L.rule run.old (call_of call) (said_of (goods_of run.old.state) result) run.new.state }
+    ensures borrows { SameBorrows run.old run.new }
 {
     match call {
         Call::Step => Ok(Said::from(run.step()?)),
         Call::Look => Ok(Said::Seen(run.look())),
         Call::LookFor(label) => Ok(Said::Found(run.look_for(label)?)),
-        Call::Refine(number, mesh, factor) => {
+        Call::Refine {
+            number,
+            mesh,
+            factor,
+        } => {
             match run.refine(Ticket::of(number, mesh), factor) {
                 Ok(()) => Ok(Said::Began),
                 Err((refusal, _)) => Err(refusal),

@@ -4,7 +4,7 @@ ghost use Rattle.std.specs.Prelude.{◌≡◌};
 use cells::Triangulation;
 use labelling::Labelling;
 use state::corner::Corner;
-use state::record::{Stage, State};
+use state::record::{Halt, Stage, State};
 
 mod beginning;
 mod looking;
@@ -35,12 +35,12 @@ pub struct Ticket {
     mesh: u32,
 }
 
-// What a granted step did: it moved; it arrived, with a ticket; it halted at a corner, named by its prices, with its improper label.
+// What a granted step did: it moved; it arrived, with a ticket; it halted.
 #[derive(Drop)]
 pub enum Progress {
     Moved,
     Arrived(Ticket),
-    Halted([u32; 8], u8),
+    Halted(Halt),
 }
 
 // What a look shows. Of the corners the first ones count, as many as there are goods and one more.

@@ -26,7 +26,7 @@ pub(crate) fn stand<T: Triangulation>(
     let cell = tri.start(&point)?;
     let grid = point.grid();
     let mut state = State::begin(number, before, point, cell);
-    for i in 0..grid.goods() + 1 {
+    for i in 0..=grid.goods() {
         let levels = tri.corner(grid, &cell, i)?;
         state.place(i, &levels);
     }

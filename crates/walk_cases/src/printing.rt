@@ -1,6 +1,6 @@
 // The text of what calls answer.
 use state::corner::Corner;
-use state::record::Stage;
+use state::record::{Halt, Stage};
 use std::fmt;
 use walk::play::Said;
 use walk::run::Look;
@@ -33,10 +33,15 @@ impl<'a> fmt::Display for Shown<'a, [u32; 8]> {
 }
 
 // A halt: the prices of the corner and its label.
-impl<'a> fmt::Display for Shown<'a, ([u32; 8], u8)> {
+impl<'a> fmt::Display for Shown<'a, Halt> {
     fn fmt<W: fmt::Write>(&self, f: &mut fmt::Formatter<W>) -> fmt::Result {
-        let (prices, label) = self.value;
-        write!(f, "halted at{} label {label}", self.beside(prices))
+        let halt = self.value;
+        write!(
+            f,
+            "halted at{} label {}",
+            self.beside(&halt.prices),
+            halt.label
+        )
     }
 }
 
@@ -45,7 +50,7 @@ impl<'a> fmt::Display for Shown<'a, Stage> {
         match self.value {
             Stage::Walking => write!(f, "walking"),
             Stage::Arrived(dropped) => write!(f, "arrived {dropped}"),
-            Stage::Halted(prices, label) => write!(f, "{}", self.beside(&(*prices, *label))),
+            Stage::Halted(halt) => write!(f, "{}", self.beside(halt)),
         }
     }
 }
@@ -86,8 +91,8 @@ impl<'a> fmt::Display for Shown<'a, Said> {
         match self.value {
             Said::Began => write!(f, "began"),
             Said::Moved => write!(f, "moved"),
-            Said::Arrived(number, mesh) => write!(f, "ticket {number} {mesh}"),
-            Said::Halted(prices, label) => write!(f, "{}", self.beside(&(*prices, *label))),
+            Said::Arrived { number, mesh } => write!(f, "ticket {number} {mesh}"),
+            Said::Halted(halt) => write!(f, "{}", self.beside(halt)),
             Said::Seen(look) => write!(f, "{}", self.beside(look)),
             Said::Found(prices) => write!(f, "prices{}", self.beside(prices)),
         }

@@ -56,10 +56,7 @@ pub fn read_opening(heap: Global, text: &str) -> Result<ParsedOpening, AllocErro
     let number = number_in(words.next());
     let goods = number_in(words.next());
     let mesh = number_in(words.next());
-    let mut start = Vec::new(heap);
-    for word in words {
-        start.push(number_in(Some(word)))?;
-    }
+    let start = words.map(|word| number_in(Some(word))).collect(heap)?;
     Ok(ParsedOpening {
         number,
         goods,
@@ -71,10 +68,11 @@ pub fn read_opening(heap: Global, text: &str) -> Result<ParsedOpening, AllocErro
 // The ticket's run number and mesh, and the factor.
 fn read_refining(text: &str) -> Call {
     let mut words = text.split('.');
-    let number = number_in(words.next());
-    let mesh = number_in(words.next());
-    let factor = number_in(words.next());
-    Call::Refine(number, mesh, factor)
+    Call::Refine {
+        number: number_in(words.next()),
+        mesh: number_in(words.next()),
+        factor: number_in(words.next()),
+    }
 }
 
 // One call: s steps, l looks, f1 looks for label 1, r7.4.2 refines with the ticket of run 7 on mesh 4 by 2.
@@ -89,9 +87,5 @@ fn read_call(word: &str) -> Call {
 }
 
 pub fn read_calls(heap: Global, text: &str) -> Result<Vec<Call>, AllocError> {
-    let mut calls = Vec::new(heap);
-    for word in text.split_whitespace() {
-        calls.push(read_call(word))?;
-    }
-    Ok(calls)
+    text.split_whitespace().map(read_call).collect(heap)
 }

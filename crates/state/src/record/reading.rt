@@ -1,9 +1,18 @@
 // Reading the record of a run.
-ghost use Rattle.std.specs.Prelude.{◌≡◌, ◌<◌, ◌≤◌, take, replicate, MatchOption};
+ghost use Rattle.std.specs.Prelude.{◌≡◌, ◌<◌, ◌≤◌, length, take, replicate, MatchOption};
 ghost use Rattle.state.specs.Views.{view_of, goods_of, stage_of, walks_at, arrived_at, levels_at, is_proper, NoCarrier, Carrier};
 
 use super::{Stage, State};
-use crate::corner::is_proper;
+use crate::corner::{Corner, is_proper};
+
+// The first levels of a corner.
+fn levels_of(corner: &Corner, goods: usize) -> &[u32]
+    requires { goods ≤ 8 }
+    ensures levels { result.now ≡ take goods corner.now.levels }
+    ensures size { length result.now ≡ goods }
+{
+    &corner.levels[..goods]
+}
 
 impl State {
     pub fn walks(&self) -> bool
@@ -35,18 +44,18 @@ impl State {
     }
 
     // The levels of the newest corner.
-    pub fn newest_levels(&self) -> [u32; 8]
-        ensures { take (goods_of self.now) result ≡ levels_at (view_of self.now) self.now.newest }
+    pub fn newest_levels(&self) -> &[u32]
+        ensures levels { result.now ≡ levels_at (view_of self.now) self.now.newest }
+        ensures size { length result.now ≡ goods_of self.now }
     {
-        self.levels_at(self.newest)
+        levels_of(&self.corners.records[self.newest], self.start.goods())
     }
 
     // The label is proper at the newest corner.
     pub fn is_proper(&self, label: u8) -> bool
         ensures { result ≡ is_proper (goods_of self.now) (levels_at (view_of self.now) self.now.newest) label }
     {
-        let levels = self.newest_levels();
-        is_proper(&levels[0..self.start.goods()], label)
+        is_proper(self.newest_levels(), label)
     }
 
     // The place of a corner that carries the label, other than the one at a given place.

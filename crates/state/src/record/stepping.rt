@@ -6,7 +6,7 @@ ghost use Rattle.cells.specs.Cells.{shape_of};
 ghost use Rattle.path.specs.Path.{limit};
 ghost use Rattle.state.specs.Views.{view_of, goods_of, levels_at, halting, arriving, entering};
 
-use super::{Stage, State};
+use super::{Halt, Stage, State};
 use cells::cell::Cell;
 use mesh::pricing::to_prices;
 use mesh::refusal::Refusal;
@@ -23,16 +23,17 @@ pub struct Entry {
 }
 
 impl State {
-    // The newest corner gets an improper label, and the run halts there. Answers the prices of that corner.
-    pub fn halt(&mut self, label: u8) -> [u32; 8]
+    // The newest corner gets an improper label, and the run halts there.
+    pub fn halt(&mut self, label: u8) -> Halt
         ensures view { view_of self.new ≡ halting (view_of self.old) label }
-        ensures prices { take (goods_of self.old) result ≡ to_prices (levels_at (view_of self.old) self.old.newest) }
+        ensures prices { take (goods_of self.old) result.prices ≡ to_prices (levels_at (view_of self.old) self.old.newest) }
+        ensures label { result.label ≡ label }
     {
-        let levels = self.newest_levels();
-        let prices = to_prices(&levels[0..self.start.goods()]);
+        let prices = to_prices(self.newest_levels());
+        let halt = Halt { prices, label };
         self.corners.set_label(self.newest, label);
-        self.stage = Stage::Halted(prices, label);
-        prices
+        self.stage = Stage::Halted(halt);
+        halt
     }
 
     // The newest corner gets its label, and the run arrives with a corner dropped.

@@ -16,7 +16,7 @@ impl<'a, T: Triangulation, L: Labelling> Run<'a, T, L> {
     // All that a look shows.
     pub fn look(&self) -> Look
         ensures sight { looked result ≡ sight_of self.now.state }
-        ensures goes { Makes (T.meaning self.now.tri.now) (L.rule self.now.labels.now) self.now.state look (sight (looked result)) self.now.state }
+        ensures goes { Makes T.meaning L.rule self.now look (sight (looked result)) self.now.state }
     {
         Look {
             stage: self.state.stage,
@@ -30,7 +30,7 @@ impl<'a, T: Triangulation, L: Labelling> Run<'a, T, L> {
 
     // The prices of the arrived corner with a label. Refuses a run that has not arrived, then anything but a good.
     pub fn look_for(&self, label: usize) -> Result<[u32; 8], Refusal>
-        ensures goes { Makes (T.meaning self.now.tri.now) (L.rule self.now.labels.now) self.now.state (look_for label) (found (goods_of self.now.state) result) self.now.state }
+        ensures goes { Makes T.meaning L.rule self.now (look_for label) (found (goods_of self.now.state) result) self.now.state }
     {
         let dropped = self.state.arrived().ok_or(Refusal::NotArrived)?;
         if !(1..=self.state.start.goods()).contains(&label) {

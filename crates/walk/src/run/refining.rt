@@ -5,7 +5,7 @@ ghost use Rattle.path.specs.Path.{refine};
 ghost use Rattle.state.specs.Views.{view_of};
 ghost use Rattle.walk.specs.Answers.{refined, made_finer, after, HandedBack};
 ghost use Rattle.walk.specs.Records.{accepting, finer_mesh};
-ghost use Rattle.walk.specs.Showing.{Makes};
+ghost use Rattle.walk.specs.Showing.{Makes, SameBorrows};
 
 use super::{Run, Ticket};
 use crate::starting::stand;
@@ -35,9 +35,9 @@ impl<'a, T: Triangulation, L: Labelling> Run<'a, T, L> {
     // Begins again on a mesh finer by a factor, from the arrived corner with label 1. Takes the ticket of the arrival, and hands it back where it refuses: a
     // run that has not arrived or another's ticket, then a factor outside 2 to 64, then a mesh above the finest, then a start that is not admitted.
     pub fn refine(&mut self, ticket: Ticket, factor: u32) -> Result<(), (Refusal, Ticket)>
-        ensures goes { Makes (T.meaning self.old.tri.now) (L.rule self.old.labels.now) self.old.state (refine ticket.number ticket.mesh factor) (refined result) self.new.state }
+        ensures goes { Makes T.meaning L.rule self.old (refine ticket.number ticket.mesh factor) (refined result) self.new.state }
         ensures back { HandedBack ticket self.old.state result self.new.state }
-        ensures borrows { (self.new.tri.now ≡ self.old.tri.now) × (self.new.labels.now ≡ self.old.labels.now) }
+        ensures borrows { SameBorrows self.old self.new }
     {
         match self.finer(&ticket, factor) {
             Ok(state) => {
@@ -50,7 +50,7 @@ impl<'a, T: Triangulation, L: Labelling> Run<'a, T, L> {
 
     // The record of the run as it begins on the finer mesh.
     fn finer(&self, ticket: &Ticket, factor: u32) -> Result<State, Refusal>
-        ensures { Makes (T.meaning self.now.tri.now) (L.rule self.now.labels.now) self.now.state (refine ticket.now.number ticket.now.mesh factor) (made_finer result) (after self.now.state result) }
+        ensures { Makes T.meaning L.rule self.now (refine ticket.now.number ticket.now.mesh factor) (made_finer result) (after self.now.state result) }
     {
         let dropped = self.accept(ticket)?;
         let goods = self.state.start.goods();

@@ -5,7 +5,7 @@ ghost use Rattle.path.specs.Path.{step};
 ghost use Rattle.state.specs.Views.{view_of, goods_of, levels_at};
 ghost use Rattle.walk.specs.Answers.{stepped};
 ghost use Rattle.walk.specs.Records.{mesh_on, label_now, crossed};
-ghost use Rattle.walk.specs.Showing.{Makes};
+ghost use Rattle.walk.specs.Showing.{Makes, SameBorrows};
 
 use super::{Progress, Run, Ticket};
 use crate::starting::label_of;
@@ -18,17 +18,16 @@ use state::record::{Entry, State};
 impl<'a, T: Triangulation, L: Labelling> Run<'a, T, L> {
     // One step. Refuses a run that is not walking.
     pub fn step(&mut self) -> Result<Progress, Refusal>
-        ensures goes { Makes (T.meaning self.old.tri.now) (L.rule self.old.labels.now) self.old.state step (stepped (goods_of self.old.state) result) self.new.state }
+        ensures goes { Makes T.meaning L.rule self.old step (stepped (goods_of self.old.state) result) self.new.state }
         ensures kept { OnErr result (self.new.state ≡ self.old.state) }
-        ensures borrows { (self.new.tri.now ≡ self.old.tri.now) × (self.new.labels.now ≡ self.old.labels.now) }
+        ensures borrows { SameBorrows self.old self.new }
     {
         if !self.state.walks() {
             return Err(Refusal::NotWalking);
         }
         let label = self.newest_label();
         if !self.state.is_proper(label) {
-            let prices = self.state.halt(label);
-            return Ok(Progress::Halted(prices, label));
+            return Ok(Progress::Halted(self.state.halt(label)));
         }
         let carrier = self.state.carrier(label, self.state.newest);
         let dropped = carrier.ok_or(Refusal::WayBlocked)?;
@@ -39,9 +38,7 @@ impl<'a, T: Triangulation, L: Labelling> Run<'a, T, L> {
     fn newest_label(&self) -> u8
         ensures { Corner (goods_of self.now.state) self.now.state.start.grid.mesh (levels_at (view_of self.now.state) self.now.state.newest) → result ≡ label_now (L.rule self.now.labels.now) (view_of self.now.state) }
     {
-        let levels = self.state.newest_levels();
-        let goods = self.state.start.goods();
-        label_of(self.labels, &self.state.start, &levels[0..goods])
+        label_of(self.labels, &self.state.start, self.state.newest_levels())
     }
 }
 

@@ -23,7 +23,8 @@ returns-then-not-is_proper b c =
           let law = b.met.T.Triangulation.lawful c.args.self.now.tri.now in
           halts_by _ _ o law calls came.path came.leads v came.shows (sym c.walks.ensures ∙ c.if-not-walks.false) c.newest_label-label.result
           (c.newest_label-label.ensures (newest-corner _ _ o law calls came.path came.leads v came.shows))
-          (sym c.is_proper.ensures ∙ c.if-not-is_proper.true) _ c.halt-prices.ensures.prices c.halt-prices.new.self c.halt-prices.ensures.view;
+          (sym c.is_proper.ensures ∙ c.if-not-is_proper.true) _ c.halt.ensures.prices _ c.halt.ensures.label
+          c.halt.new.self c.halt.ensures.view;
       kept = tt;
       borrows = (refl, refl);
     }
