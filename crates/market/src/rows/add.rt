@@ -110,7 +110,7 @@ impl Numbers {
     pub(crate) fn add_goods(&mut self, body: &[u8])
         ensures { self.new ≡ with_goods self.old (slice_index body.now 0) }
     {
-        self.goods = byte_at(body, 0) as usize;
+        self.goods = usize::from(byte_at(body, 0));
     }
 
     // The name stands after the three bytes of its field's head.
