@@ -1,5 +1,5 @@
 // Reading one field.
-ghost use Rattle.std.specs.Prelude.{◌≡◌, Some, ◌+◌, ◌*◌, ◌<◌, drop, slice_index};
+ghost use Rattle.std.specs.Prelude.{◌≡◌, true, length, Some, ◌+◌, ◌*◌, ◌<◌, drop, slice_index};
 ghost use Rattle.std.specs.List.{list_all};
 ghost use Rattle.layout.specs.Faults.{tag_due, length_fits, value_fits};
 ghost use Rattle.layout.specs.Layout.{printing};
@@ -68,14 +68,18 @@ impl Due {
         }
     }
 
+    // Of a body whose length fits.
     #[tactic(auto, using(crate::proofs::FieldChecks::every_prints))]
     fn takes_value(&self, body: &[u8]) -> bool
+        requires { length_fits (due_of (Some self.now)) (length body.now) ≡ true }
         ensures { result ≡ value_fits (due_of (Some self.now)) body.now }
     {
         match self {
-            Due::Goods => (2..=8).contains(&byte_at(body, 0)),
+            Due::Goods => matches!(body, [2..=8, ..]),
             Due::Name => prints(body),
-            Due::Sum => (1..=1000).contains(&number_at(body, 0)),
+            Due::Sum => {
+                matches!(body, [high, low] if (1..=1000).contains(&u16::from_be_bytes([*high, *low])))
+            }
             Due::Trader { .. } => true,
         }
     }
@@ -118,7 +122,7 @@ fn field_in<'f>(bytes: &'f [u8], at: usize, due: Option<Due>) -> Result<Field<'f
     let Some(due) = due.filter(|due| due.takes_tag(*tag)) else {
         return Err(Refusal::TagNotDue(at));
     };
-    let len = 256 * usize::from(*high) + usize::from(*low);
+    let len = usize::from(u16::from_be_bytes([*high, *low]));
     if !due.takes_length(len) {
         return Err(Refusal::LengthWrong(at));
     }
