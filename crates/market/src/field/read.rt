@@ -9,21 +9,6 @@ ghost use Rattle.market.specs.Fields.{due_of, field_of, field_for};
 use super::{Due, Field};
 use mesh::refusal::Refusal;
 
-// One byte; 0 past the end.
-pub(crate) fn byte_at(bytes: &[u8], i: usize) -> u8
-    ensures { result ≡ slice_index bytes.now i }
-{
-    bytes.get(i).copied().unwrap_or(0)
-}
-
-// A number of two bytes, the high one first.
-pub(crate) fn number_at(bytes: &[u8], i: usize) -> u16
-    requires { i < 16 }
-    ensures { result ≡ 256 * slice_index bytes.now i + slice_index bytes.now (i + 1) }
-{
-    u16::from(byte_at(bytes, i)) * 256 + u16::from(byte_at(bytes, i + 1))
-}
-
 // The bytes from a place on; none past the end.
 pub(crate) fn bytes_from<'f>(bytes: &'f [u8], at: usize) -> &'f [u8]
     ensures { result.now ≡ drop at bytes.now }

@@ -5,7 +5,7 @@ ghost use Rattle.market.specs.Rows.{cut};
 ghost use Rattle.market.specs.Adding.{Written, unsaid, due_in, with_goods, with_name, with_sum, with_trader};
 
 use super::{Numbers, Span, Trader};
-use crate::field::{Due, byte_at, bytes_from, number_at};
+use crate::field::{Due, bytes_from};
 use std::array;
 
 // The number of one of some pairs of bytes; 0 past the last.
@@ -109,9 +109,10 @@ impl Numbers {
     }
 
     pub(crate) fn add_goods(&mut self, body: &[u8])
+        requires { length body.now ≡ 1 }
         ensures { self.new ≡ with_goods self.old (slice_index body.now 0) }
     {
-        self.goods = usize::from(byte_at(body, 0));
+        self.goods = usize::from(body[0]);
     }
 
     // The name stands after the three bytes of its field's head.
@@ -128,9 +129,10 @@ impl Numbers {
     }
 
     pub(crate) fn add_sum(&mut self, body: &[u8])
+        requires { length body.now ≡ 2 }
         ensures { self.new ≡ with_sum self.old (256 * slice_index body.now 0 + slice_index body.now 1) }
     {
-        self.sum = u32::from(number_at(body, 0));
+        self.sum = u32::from(u16::from_be_bytes([body[0], body[1]]));
     }
 
     pub(crate) fn add_trader(&mut self, trader: Trader)
