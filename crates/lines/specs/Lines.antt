@@ -9,8 +9,8 @@ use Rattle.std.specs.declared.io.ErrorKind.TheVariants.{OutOfMemory, InvalidInpu
 use Rattle.mesh.specs.Points.{goods_of, mesh_of, prices_of}
 use Rattle.mesh.specs.Refusals.{Told, told, carried_by}
 use Rattle.mesh.specs.declared.point.PricePoint.{PricePoint}
-use Rattle.trade.specs.Trade.{excess, goods_from}
-use Rattle.market.specs.Markets.{traders_of, market_rule}
+use Rattle.trade.specs.Trade.{goods_from}
+use Rattle.market.specs.Markets.{goods_in, excess_at, market_rule}
 use Rattle.market.specs.declared.market.Market.{Market}
 use Rattle.lines.specs.declared.errors.LineError.{LineError}
 use Rattle.lines.specs.declared.errors.LineError.TheVariants.{Memory, Refused}
@@ -54,7 +54,7 @@ point_text prices excesses l = codes "prices" ++ (prices ++ (codes ": excess" ++
 
 -- The excess of each good of a market at a point.
 abbrev pub excesses_at : Market → PricePoint → List ℤ
-excesses_at m p = map (excess m.numbers.sum (traders_of m) (prices_of p)) (goods_from 0 m.numbers.goods)
+excesses_at m p = map (excess_at m p) (goods_from 0 (goods_in m))
 
 -- The line of a point: its prices, the excesses, and the market's label.
 abbrev pub line_at : Market → PricePoint → List ℕ
@@ -62,9 +62,9 @@ line_at m p = point_text (spaced decimal (prices_of p)) (spaced signed_decimal (
 
 -- What asking for that line answers: with other goods than the market's it is refused with 3, else only for want of memory.
 abbrev pub PointLine : Market → PricePoint → Result (String Global) LineError → Type 0
-PointLine m p (Ok s) = (goods_of p ≡ m.numbers.goods) × (string_bytes s ≡ line_at m p)
-PointLine m p (Err Memory) = goods_of p ≡ m.numbers.goods
-PointLine m p (Err (Refused e)) = (goods_of p ≢ m.numbers.goods) × (told e ≡ (3, []))
+PointLine m p (Ok s) = (goods_of p ≡ goods_in m) × (string_bytes s ≡ line_at m p)
+PointLine m p (Err Memory) = goods_of p ≡ goods_in m
+PointLine m p (Err (Refused e)) = (goods_of p ≢ goods_in m) × (told e ≡ (3, []))
 
 -- How a program is told that there is no line.
 abbrev pub kind_of : LineError → ErrorKind

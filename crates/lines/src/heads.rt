@@ -32,20 +32,13 @@ impl fmt::Display for Letters<'_> {
     }
 }
 
-// The line with a character for each byte of the name.
-fn good_text(heap: Global, good: usize, name: &[u8], owned: u32) -> Result<String, AllocError>
-    ensures { IfOk result (λ s. string_bytes s ≡ good_text good (encodes name.now) owned) }
-{
-    let name = Letters(name);
-    format!(in heap; "good {good}: {name}, {owned} owned")
-}
-
 // A good, its name, and what is owned of it in all. The bytes of the name are characters: below 128 each is itself.
 pub fn good_line(heap: Global, good: usize, name: &[u8], owned: u32) -> Result<String, AllocError>
     ensures text { IfOk result (λ s. string_bytes s ≡ good_text good (encodes name.now) owned) }
     ensures ascii { IsAscii name.now → IfOk result (λ s. string_bytes s ≡ good_text good name.now owned) }
 {
-    good_text(heap, good, name, owned)
+    let name = Letters(name);
+    format!(in heap; "good {good}: {name}, {owned} owned")
 }
 
 // How many traders there are, and what each one's weights add up to.

@@ -1,9 +1,8 @@
 // The line of a price point.
 ghost use Rattle.std.specs.Prelude.{◌≡◌, ◌≤◌, IfOk, Some, string_bytes, MatchOption, ◌≢◌};
 ghost use Rattle.std.specs.Fmt.{signed_decimal};
-ghost use Rattle.mesh.specs.Points.{goods_of, prices_of};
-ghost use Rattle.trade.specs.Trade.{excess};
-ghost use Rattle.market.specs.Markets.{traders_of};
+ghost use Rattle.mesh.specs.Points.{goods_of};
+ghost use Rattle.market.specs.Markets.{goods_in, excess_at};
 ghost use Rattle.lines.specs.Lines.{spaced, excesses_at, line_at, PointLine};
 
 use crate::errors::LineError;
@@ -20,13 +19,13 @@ use std::fmt;
 struct Excesses<'q> {
     market: &'q Market,
     point: &'q PricePoint,
-    ghost same_goods: { goods_of point.now ≡ market.now.numbers.goods },
+    ghost same_goods: { goods_of point.now ≡ goods_in market.now },
 }
 
 impl<'q> Excesses<'q> {
     // None where the point has another number of goods.
     fn of(market: &'q Market, point: &'q PricePoint) -> Option<Excesses<'q>>
-        ensures { MatchOption result (goods_of point.now ≢ market.now.numbers.goods) (λ q. (q.market.now ≡ market.now) × (q.point.now ≡ point.now)) }
+        ensures { MatchOption result (goods_of point.now ≢ goods_in market.now) (λ q. (q.market.now ≡ market.now) × (q.point.now ≡ point.now)) }
     {
         if point.goods() != market.goods() {
             return None;
@@ -36,8 +35,8 @@ impl<'q> Excesses<'q> {
 
     // The excess of a good of the market.
     fn excess(&self, good: usize) -> i64
-        requires { (1 ≤ good) × (good ≤ self.now.market.now.numbers.goods) }
-        ensures { result ≡ excess self.now.market.now.numbers.sum (traders_of self.now.market.now) (prices_of self.now.point.now) good }
+        requires { (1 ≤ good) × (good ≤ goods_in self.now.market.now) }
+        ensures { result ≡ excess_at self.now.market.now self.now.point.now good }
     {
         self.market.excess(good, self.point).unwrap()
     }
@@ -56,8 +55,8 @@ impl fmt::Display for Excesses<'_> {
     ghost output = { λ q. Some (spaced signed_decimal (excesses_at q.market.now q.point.now)) };
 
     fn fmt<W: fmt::Write>(&self, f: &mut fmt::Formatter<W>) -> fmt::Result {
-        for j in 0..self.market.goods() {
-            write!(f, " {}", self.excess(j + 1))?;
+        for good in 1..=self.market.goods() {
+            write!(f, " {}", self.excess(good))?;
         }
         Ok(())
     }

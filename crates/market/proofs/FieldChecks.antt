@@ -1,15 +1,12 @@
 -- What reading a field answers, by the first check that fails.
-use Rattle.std.proofs.Common.{◌≡◌, ℕ, ◌+◌, ◌-◌, ◌≤◌, true, false, ◌&&◌, List, [], ◌∷◌, length, take, drop, Ok, Err, Result, sym, refl, ap, ◌∙◌, arith}
+use Rattle.std.proofs.Common.{◌≡◌, ℕ, ◌+◌, ◌-◌, ◌≤◌, true, false, ◌&&◌, List, [], ◌∷◌, length, take, drop, Ok, Err, sym, refl, ap, ◌∙◌, arith}
 use Rattle.std.proofs.lemmas.List.{take_rest, length-drop}
 use Rattle.std.proofs.lemmas.Bool.{le-leb}
 use Rattle.std.specs.List.{list_all}
 use Rattle.layout.specs.Layout.{printing}
-use Rattle.mesh.specs.Refusals.{Told}
 use Rattle.layout.specs.Faults.{Due, tag_of, length_of, body_of, tag_due, length_fits, value_fits, all_print}
 use Rattle.market.specs.Fields.{due_tag, field_for}
-
-abbrev Answer : Type 0
-Answer = Result (ℕ × List ℕ × ℕ) Told
+use Rattle.market.proofs.FieldTells.{Answer}
 
 module _ (d : Due) (bytes : List ℕ) (place : ℕ) where
   pub value-off : 3 ≤ length bytes → tag_due d (tag_of bytes) ≡ true → length_fits d (length_of bytes) ≡ true → 3 + length_of bytes ≤ length bytes

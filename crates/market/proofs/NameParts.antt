@@ -2,6 +2,7 @@
 use Rattle.std.proofs.Common.{◌≡◌, ℕ, ◌+◌, ◌-◌, ◌<◌, Bool, true, false, List, [], ◌∷◌, ◌++◌, length, get_or, take, drop, Ok, Result, sym, refl, ap, ◌∙◌, arith}
 use Rattle.std.specs.List.{flat_map}
 use Rattle.std.proofs.lemmas.List.{drop_at, drop-drop, take_at, append_assoc, get_or-map, get_or-take, length-take, take-append-drop, drop_more, length-map, length-take-le}
+use Rattle.std.proofs.lemmas.Grind.{flat_map-append}
 use Rattle.std.proofs.lemmas.Bool.{and_parts, leb-true}
 use Rattle.mesh.specs.Range.{between}
 use Rattle.mesh.specs.Refusals.{Told, insist}
@@ -32,10 +33,6 @@ name-is file m j s d e = go (between 1 m.numbers.goods j) refl e
         ap (λ x. Ok (cut file x)) (same ∙ sym (get_or-take m.numbers.named m.numbers.names (j - 1) d inside))
         ∙ ap Ok (sym (get_or-map (cut file) (take m.numbers.named m.numbers.names) (j - 1) d [] few))
 
-joined-append : (xs ys : List (List ℕ)) → flat_map name_field (xs ++ ys) ≡ flat_map name_field xs ++ flat_map name_field ys
-joined-append [] ys = refl
-joined-append (x ∷ xs) ys = ap (λ r. name_field x ++ r) (joined-append xs ys) ∙ sym (append_assoc (name_field x) (flat_map name_field xs) (flat_map name_field ys))
-
 -- In the file of an economy, the name of good j stands at its place.
 pub name-place : (e : Economy) (j : ℕ) → j - 1 < length e.names
     → name_of e j ≡ take (length (name_of e j)) (drop (name_at e j) (file_of e))
@@ -47,7 +44,7 @@ name-place e j inside =
     let start = bytes_of (naming e.goods before) in
     let split : before ++ (name_of e j ∷ after) ≡ e.names = ap (λ r. before ++ r) (sym (drop_more e.names k [] inside)) ∙ take-append-drop k e.names in
     let names : flat_map name_field e.names ≡ flat_map name_field before ++ (name_field (name_of e j) ++ flat_map name_field after)
-    = ap (flat_map name_field) (sym split) ∙ joined-append before (name_of e j ∷ after) in
+    = ap (flat_map name_field) (sym split) ∙ flat_map-append name_field before (name_of e j ∷ after) in
     let file : file_of e ≡ start ++ (name_field (name_of e j) ++ (flat_map name_field after ++ tail))
     = ap (λ r. goods_field e.goods ++ (r ++ tail)) names
     ∙ ap (λ r. goods_field e.goods ++ r) (append_assoc (flat_map name_field before) (name_field (name_of e j) ++ flat_map name_field after) tail)

@@ -2,6 +2,7 @@
 --   Good            what is known of it
 --   good-field      every granted field is good
 --   said_more       the bytes of the file up to its end
+--   goods-length, sum-length         its body is as long as it must be
 --   field-within, name-room, trader-room    it lies in the file, and there is room for what it says
 use Rattle.std.proofs.Common.{◌≡◌, ℕ, ◌+◌, ◌*◌, ◌<◌, ◌≤◌, true, List, ◌++◌, length, take, drop, Ok, sym, refl, ap, ◌∙◌, subst, arith}
 use Rattle.std.proofs.lemmas.List.{length-drop}
@@ -14,7 +15,7 @@ use Rattle.market.specs.declared.rows.Numbers.{Numbers}
 use Rattle.market.specs.Adding.{due_in}
 use Rattle.market.specs.Held.{beginning_of, Held}
 use Rattle.market.proofs.FieldTells.{Answer, passed, field_told}
-use Rattle.market.proofs.Stages.{turn, name-turn, trader-turn, tag-due, size_small}
+use Rattle.market.proofs.Stages.{turn, goods-turn, name-turn, sum-turn, trader-turn, tag-due, size_small}
 use Rattle.market.proofs.Grown.{body-length, field-more, cut-body}
 use Rattle.market.proofs.Standing.{goods-few}
 
@@ -59,6 +60,16 @@ module _ (file : List ℕ) (at : ℕ) (n : Numbers) (held : Held file at n) (bod
   pub field-within : (t : ℕ) → ◌≡◌ {A = Answer} (Ok (t, body, place)) (field_for (due_in n) (drop at file) at)
       → (place ≡ at) × (at + 3 + length body ≤ length file)
   field-within t e = let good = good-field t e in (good.here, good.within)
+
+  pub goods-length : ◌≡◌ {A = Answer} (Ok (1, body, place)) (field_for (due_in n) (drop at file) at) → length body ≡ 1
+  goods-length e =
+      let good = good-field 1 e in
+      eqb-true _ _ (subst (λ d. length_fits d (length body) ≡ true) (goods-turn n (due_in n) good.tag (turn n)).0 good.size)
+
+  pub sum-length : ◌≡◌ {A = Answer} (Ok (3, body, place)) (field_for (due_in n) (drop at file) at) → length body ≡ 2
+  sum-length e =
+      let good = good-field 3 e in
+      eqb-true _ _ (subst (λ d. length_fits d (length body) ≡ true) (sum-turn n (due_in n) good.tag (turn n)).0 good.size)
 
   pub name-room : ◌≡◌ {A = Answer} (Ok (2, body, place)) (field_for (due_in n) (drop at file) at) → n.named < 8
   name-room e = let good = good-field 2 e in omega (arith, (name-turn n (due_in n) good.tag (turn n)).2, goods-few file at n held)

@@ -26,7 +26,7 @@ use Rattle.market.proofs.Standing.{names-many, traders-many, sound-naming, sound
 use Rattle.market.proofs.NextField.{good-field, said_more}
 pub use Rattle.market.proofs.FieldTells.{Answer, field_told, early-passes, early-fails, field-refused}
 pub use Rattle.market.proofs.Standing.{held_start, goods-few, held-due, held-ended, held-fault}
-pub use Rattle.market.proofs.NextField.{field-within, name-room, trader-room}
+pub use Rattle.market.proofs.NextField.{field-within, goods-length, sum-length, name-room, trader-room}
 pub use Rattle.market.proofs.Endings.{held_whole, held-market, reads_all}
 
 -- One name more is marked at its place, if that is where the names before it end.

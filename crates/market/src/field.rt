@@ -3,7 +3,7 @@
 mod read;
 
 pub use read::next_field;
-pub(crate) use read::{byte_at, bytes_from, number_at};
+pub(crate) use read::bytes_from;
 
 // A field: its body, which is a part of the file, and the place of its tag byte.
 #[derive(Clone, Copy)]

@@ -36,19 +36,15 @@ impl<'f> MarketFile<'f> {
         ensures value { answered (λ x. x.now) result ≡ name_for self.now.bytes.now self.now.found good }
         ensures place { IfOk result (λ s. NameStands self.now.bytes.now self.now.found good s.now) }
     {
-        match self.found {
-            Ok(market) => market.name_in(self.bytes, good),
-            Err(_) => Err(Refusal::NoSuchGood),
-        }
+        let market = self.found.map_err(|_| Refusal::NoSuchGood)?;
+        market.name_in(self.bytes, good)
     }
 
     // The place of that name in the file, counted from 0. Refused alike.
     pub fn name_place(&self, good: usize) -> Result<usize, Refusal>
         ensures { answered (λ n. n) result ≡ place_for self.now.found good }
     {
-        let Ok(market) = self.found else {
-            return Err(Refusal::NoSuchGood);
-        };
+        let market = self.found.map_err(|_| Refusal::NoSuchGood)?;
         let span = market.name_span(good)?;
         Ok(span.at)
     }

@@ -19,28 +19,18 @@ fn read_one(file: &[u8], at: usize, numbers: &mut Numbers) -> Result<usize, Refu
     let field = next_field(file, at, numbers.due())?;
     let end = at + 3 + field.body().len();
     match field {
-        Field::Goods(body, _) => {
-            numbers.add_goods(body);
-            Ok(end)
-        }
-        Field::Name(body, place) => {
-            numbers.add_name(place, body);
-            Ok(end)
-        }
-        Field::Sum(body, _) => {
-            numbers.add_sum(body);
-            Ok(end)
-        }
+        Field::Goods(body, _) => numbers.add_goods(body),
+        Field::Name(body, place) => numbers.add_name(place, body),
+        Field::Sum(body, _) => numbers.add_sum(body),
         Field::Trader(body, place) => {
-            let goods = numbers.goods;
-            let trader = Trader::of(body, goods);
-            if !trader.adds_up_to(goods, numbers.sum) {
+            let trader = Trader::of(body, numbers.goods);
+            if !trader.adds_up_to(numbers.goods, numbers.sum) {
                 return Err(Refusal::WeightsOffSum(place));
             }
             numbers.add_trader(trader);
-            Ok(end)
         }
     }
+    Ok(end)
 }
 
 // The end of a whole file: some trader was read, and no byte is left.

@@ -1,5 +1,5 @@
 // Reading one field.
-ghost use Rattle.std.specs.Prelude.{◌≡◌, Some, ◌+◌, ◌*◌, ◌<◌, drop, slice_index};
+ghost use Rattle.std.specs.Prelude.{◌≡◌, true, length, Some, ◌+◌, ◌*◌, ◌<◌, drop, slice_index};
 ghost use Rattle.std.specs.List.{list_all};
 ghost use Rattle.layout.specs.Faults.{tag_due, length_fits, value_fits};
 ghost use Rattle.layout.specs.Layout.{printing};
@@ -8,21 +8,6 @@ ghost use Rattle.market.specs.Fields.{due_of, field_of, field_for};
 
 use super::{Due, Field};
 use mesh::refusal::Refusal;
-
-// One byte; 0 past the end.
-pub(crate) fn byte_at(bytes: &[u8], i: usize) -> u8
-    ensures { result ≡ slice_index bytes.now i }
-{
-    bytes.get(i).copied().unwrap_or(0)
-}
-
-// A number of two bytes, the high one first.
-pub(crate) fn number_at(bytes: &[u8], i: usize) -> u16
-    requires { i < 16 }
-    ensures { result ≡ 256 * slice_index bytes.now i + slice_index bytes.now (i + 1) }
-{
-    u16::from(byte_at(bytes, i)) * 256 + u16::from(byte_at(bytes, i + 1))
-}
 
 // The bytes from a place on; none past the end.
 pub(crate) fn bytes_from<'f>(bytes: &'f [u8], at: usize) -> &'f [u8]
@@ -68,14 +53,18 @@ impl Due {
         }
     }
 
+    // Of a body whose length fits.
     #[tactic(auto, using(crate::proofs::FieldChecks::every_prints))]
     fn takes_value(&self, body: &[u8]) -> bool
+        requires { length_fits (due_of (Some self.now)) (length body.now) ≡ true }
         ensures { result ≡ value_fits (due_of (Some self.now)) body.now }
     {
         match self {
-            Due::Goods => (2..=8).contains(&byte_at(body, 0)),
+            Due::Goods => matches!(body, [2..=8, ..]),
             Due::Name => prints(body),
-            Due::Sum => (1..=1000).contains(&number_at(body, 0)),
+            Due::Sum => {
+                matches!(body, [high, low] if (1..=1000).contains(&u16::from_be_bytes([*high, *low])))
+            }
             Due::Trader { .. } => true,
         }
     }
@@ -118,7 +107,7 @@ fn field_in<'f>(bytes: &'f [u8], at: usize, due: Option<Due>) -> Result<Field<'f
     let Some(due) = due.filter(|due| due.takes_tag(*tag)) else {
         return Err(Refusal::TagNotDue(at));
     };
-    let len = 256 * usize::from(*high) + usize::from(*low);
+    let len = usize::from(u16::from_be_bytes([*high, *low]));
     if !due.takes_length(len) {
         return Err(Refusal::LengthWrong(at));
     }

@@ -1,9 +1,9 @@
 // What is demanded and supplied of a good, and the excess.
 ghost use Rattle.std.specs.Prelude.{◌≡◌, ◌*◌, ◌≤◌, ◌&&◌, length, pos, ◌-ℤ◌, [], MatchResult, ◌≢◌, sum, ◌==◌};
-ghost use Rattle.trade.specs.Trade.{dot, demand, supply, owned_in_all, excess, clears};
+ghost use Rattle.trade.specs.Trade.{dot, clears};
 ghost use Rattle.mesh.specs.Refusals.{answered, told};
 ghost use Rattle.mesh.specs.Points.{goods_of, mesh_of, prices_of};
-ghost use Rattle.market.specs.Markets.{traders_of, excess_for, owned_for, market_rule, LabelledBy};
+ghost use Rattle.market.specs.Markets.{goods_in, traders_of, demand_at, supply_at, excess_at, excess_for, owned_for, market_rule, LabelledBy};
 ghost use Rattle.market.specs.MarketLabel.{label-byte};
 
 use super::Market;
@@ -17,7 +17,7 @@ use mesh::refusal::Refusal;
 struct Quote<'q> {
     good: Good<'q>,
     point: &'q PricePoint,
-    ghost same_goods: { goods_of point.now ≡ good.market.now.numbers.goods },
+    ghost same_goods: { goods_of point.now ≡ goods_in good.market.now },
 }
 
 // What an endowment is worth at these prices.
@@ -54,8 +54,8 @@ impl<'m> Good<'m> {
     // The good at a price point. Refuses a point with another number of goods.
     fn at(&self, point: &'m PricePoint) -> Result<Quote<'m>, Refusal>
         ensures { MatchResult result
-            (λ q. (goods_of point.now ≡ self.now.market.now.numbers.goods) × ((q.good ≡ self.now) × (q.point.now ≡ point.now)))
-            (λ e. (goods_of point.now ≢ self.now.market.now.numbers.goods) × (told e ≡ (3, []))) }
+            (λ q. (goods_of point.now ≡ goods_in self.now.market.now) × ((q.good ≡ self.now) × (q.point.now ≡ point.now)))
+            (λ e. (goods_of point.now ≢ goods_in self.now.market.now) × (told e ≡ (3, []))) }
     {
         if point.goods() != self.market.goods() {
             return Err(Refusal::NotAPricePoint);
@@ -67,7 +67,7 @@ impl<'m> Good<'m> {
 impl<'q> Quote<'q> {
     // What all traders spend on the good, times the weight sum.
     fn demanded(&self) -> u64
-        ensures value { result ≡ demand (traders_of self.now.good.market.now) (prices_of self.now.point.now) self.now.good.number }
+        ensures value { result ≡ demand_at self.now.good.market.now self.now.point.now self.now.good.number }
         ensures small { result ≤ 1125865547366400 }
     {
         let prices = self.point.prices();
@@ -81,7 +81,7 @@ impl<'q> Quote<'q> {
 
     // What all there is of the good is worth, times the weight sum.
     fn supplied(&self) -> u64
-        ensures value { result ≡ supply self.now.good.market.now.numbers.sum (traders_of self.now.good.market.now) (prices_of self.now.point.now) self.now.good.number }
+        ensures value { result ≡ supply_at self.now.good.market.now self.now.point.now self.now.good.number }
         ensures small { result ≤ 17179607040000 }
     {
         product(
@@ -93,7 +93,7 @@ impl<'q> Quote<'q> {
 
     // How much more is demanded than supplied.
     fn excess(&self) -> i64
-        ensures { result ≡ excess self.now.good.market.now.numbers.sum (traders_of self.now.good.market.now) (prices_of self.now.point.now) self.now.good.number }
+        ensures { result ≡ excess_at self.now.good.market.now self.now.point.now self.now.good.number }
     {
         difference(self.demanded(), self.supplied())
     }
@@ -116,7 +116,7 @@ impl Market {
 
     // A good with a price that is not short, at a point of as many goods.
     fn clears(&self, good: usize, point: &PricePoint) -> bool
-        ensures { result ≡ (goods_of point.now == self.now.numbers.goods && clears self.now.numbers.sum (traders_of self.now) (prices_of point.now) good) }
+        ensures { result ≡ (goods_of point.now == goods_in self.now && clears self.now.numbers.sum (traders_of self.now) (prices_of point.now) good) }
     {
         point.price(good) > 0 && self.excess(good, point).is_ok_and(|excess| excess <= 0)
     }
@@ -130,7 +130,7 @@ impl Labelling for Market {
     // The smallest good with a price that is not short. At a point of as many goods there always is one.
     fn label(&self, point: &PricePoint) -> u8
         ensures value { result ≡ market_rule self.now (goods_of point.now) (mesh_of point.now) (prices_of point.now) }
-        ensures found { goods_of point.now ≡ self.now.numbers.goods → LabelledBy self.now point.now result }
+        ensures found { goods_of point.now ≡ goods_in self.now → LabelledBy self.now point.now result }
     {
         (1..self.numbers.goods + 1)
             .find(|good| self.clears(*good, point))

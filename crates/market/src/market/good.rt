@@ -3,7 +3,7 @@ ghost use Rattle.std.specs.Prelude.{◌≡◌, ◌≤◌, true, false, [], Match
 ghost use Rattle.mesh.specs.Range.{between};
 ghost use Rattle.mesh.specs.Refusals.{told};
 ghost use Rattle.trade.specs.Trade.{owned_in_all};
-ghost use Rattle.market.specs.Markets.{traders_of};
+ghost use Rattle.market.specs.Markets.{goods_in, traders_of};
 ghost use Rattle.market.specs.Reading.{span_of};
 
 use super::Market;
@@ -15,15 +15,15 @@ use mesh::refusal::Refusal;
 pub(super) struct Good<'m> {
     pub(super) market: &'m Market,
     pub(super) number: usize,
-    ghost is_good: { (1 ≤ number) × (number ≤ market.now.numbers.goods) },
+    ghost is_good: { (1 ≤ number) × (number ≤ goods_in market.now) },
 }
 
 impl Market {
     // A good by its number. Refuses a number past the goods, and 0.
     pub(super) fn good(&self, number: usize) -> Result<Good<'_>, Refusal>
         ensures { MatchResult result
-            (λ g. (between 1 self.now.numbers.goods number ≡ true) × ((g.market.now ≡ self.now) × (g.number ≡ number)))
-            (λ e. (between 1 self.now.numbers.goods number ≡ false) × (told e ≡ (11, []))) }
+            (λ g. (between 1 (goods_in self.now) number ≡ true) × ((g.market.now ≡ self.now) × (g.number ≡ number)))
+            (λ e. (between 1 (goods_in self.now) number ≡ false) × (told e ≡ (11, []))) }
     {
         if !(1..=self.numbers.goods).contains(&number) {
             return Err(Refusal::NoSuchGood);

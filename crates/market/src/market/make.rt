@@ -1,9 +1,10 @@
 // Making a market from numbers that were read.
-ghost use Rattle.std.specs.Prelude.{◌≡◌, ◌-◌, IfOk, Ok, MatchOption, slice_index_or};
+ghost use Rattle.std.specs.Prelude.{◌≡◌, IfOk, Ok, MatchOption};
 ghost use Rattle.mesh.specs.Range.{between};
 ghost use Rattle.mesh.specs.Refusals.{answered, insist};
+ghost use Rattle.market.specs.Reading.{span_of};
 ghost use Rattle.market.specs.Names.{name_for, NameStands};
-ghost use Rattle.market.specs.Markets.{MarketNumbers, AllOwned, FirstUnowned};
+ghost use Rattle.market.specs.Markets.{goods_in, MarketNumbers, AllOwned, FirstUnowned};
 
 use super::Market;
 use crate::rows::{Numbers, Span};
@@ -26,7 +27,7 @@ impl Market {
 
     // Where the name of a good stands in the file that was read.
     pub(crate) fn name_span(&self, good: usize) -> Result<Span, Refusal>
-        ensures { answered (λ s. s) result ≡ insist (between 1 self.now.numbers.goods good) 11 (Ok (slice_index_or self.now.numbers.names (good - 1) (record { at = 0; len = 0 }))) }
+        ensures { answered (λ s. s) result ≡ insist (between 1 (goods_in self.now) good) 11 (Ok (span_of self.now.numbers good)) }
     {
         Ok(self.good(good)?.span())
     }

@@ -1,6 +1,6 @@
 // The parts of a market.
 ghost use Rattle.std.specs.Prelude.{◌≡◌, length};
-ghost use Rattle.market.specs.Markets.{rows_of, traders_of};
+ghost use Rattle.market.specs.Markets.{goods_in, rows_of, traders_of};
 
 use super::Market;
 use crate::rows::Trader;
@@ -8,7 +8,7 @@ use crate::rows::Trader;
 impl Market {
     // How many goods are traded.
     pub fn goods(&self) -> usize
-        ensures { result ≡ self.now.numbers.goods }
+        ensures { result ≡ goods_in self.now }
     {
         self.numbers.goods
     }

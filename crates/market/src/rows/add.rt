@@ -1,26 +1,25 @@
 // Adding what one field says.
-ghost use Rattle.std.specs.Prelude.{◌≡◌, ℕ, ◌+◌, ◌*◌, ◌<◌, ◌≤◌, length, take, sum, ◌==◌, slice_index};
+ghost use Rattle.std.specs.Prelude.{◌≡◌, ℕ, ◌+◌, ◌*◌, ◌<◌, ◌≤◌, length, take, sum, ◌==◌, slice_index, slice_index_or, []};
 ghost use Rattle.market.specs.Fields.{due_of};
 ghost use Rattle.market.specs.Rows.{cut};
 ghost use Rattle.market.specs.Adding.{Written, unsaid, due_in, with_goods, with_name, with_sum, with_trader};
 
 use super::{Numbers, Span, Trader};
-use crate::field::{Due, byte_at, bytes_from, number_at};
+use crate::field::{Due, bytes_from};
 use std::array;
 
-// The number at one place among numbers of two bytes each.
-fn amount_at(body: &[u8], place: usize) -> u16
-    requires { place < 8 }
-    ensures { result ≡ 256 * slice_index body.now (2 * place) + slice_index body.now (2 * place + 1) }
+// The number of one of some pairs of bytes; 0 past the last.
+fn amount_at(pairs: &[[u8; 2]], place: usize) -> u16
+    ensures { result ≡ 256 * slice_index (slice_index_or pairs.now place []) 0 + slice_index (slice_index_or pairs.now place []) 1 }
 {
-    number_at(body, 2 * place)
+    pairs.get(place).map_or(0, |pair| u16::from_be_bytes(*pair))
 }
 
-// Numbers of two bytes each; 0 past the end.
-fn amounts(body: &[u8]) -> [u16; 8]
-    ensures { (length result ≡ 8) × ((k : ℕ) → k < 8 → slice_index result k ≡ 256 * slice_index body.now (2 * k) + slice_index body.now (2 * k + 1)) }
+// The numbers of some pairs of bytes; 0 past the last.
+fn amounts(pairs: &[[u8; 2]]) -> [u16; 8]
+    ensures { (length result ≡ 8) × ((k : ℕ) → k < 8 → slice_index result k ≡ 256 * slice_index (slice_index_or pairs.now k []) 0 + slice_index (slice_index_or pairs.now k []) 1) }
 {
-    array::from_fn(|good| amount_at(body, good))
+    array::from_fn(|good| amount_at(pairs, good))
 }
 
 // The first bytes, so many of them or all.
@@ -53,10 +52,12 @@ impl Trader {
         requires { (goods ≤ 8) × (length body.now ≡ 4 * goods) }
         ensures { Written body.now goods result }
     {
-        let (owned, weighed) = body.split_at(2 * goods);
-        let owns = amounts(owned);
-        let weighs = amounts(weighed);
-        Trader { owns, weighs }
+        let (pairs, _) = body.as_chunks::<2>();
+        let (owned, weighed) = pairs.split_at(goods);
+        Trader {
+            owns: amounts(owned),
+            weighs: amounts(weighed),
+        }
     }
 
     // The weights of the goods add up to that.
@@ -108,9 +109,10 @@ impl Numbers {
     }
 
     pub(crate) fn add_goods(&mut self, body: &[u8])
+        requires { length body.now ≡ 1 }
         ensures { self.new ≡ with_goods self.old (slice_index body.now 0) }
     {
-        self.goods = byte_at(body, 0) as usize;
+        self.goods = usize::from(body[0]);
     }
 
     // The name stands after the three bytes of its field's head.
@@ -127,9 +129,10 @@ impl Numbers {
     }
 
     pub(crate) fn add_sum(&mut self, body: &[u8])
+        requires { length body.now ≡ 2 }
         ensures { self.new ≡ with_sum self.old (256 * slice_index body.now 0 + slice_index body.now 1) }
     {
-        self.sum = u32::from(number_at(body, 0));
+        self.sum = u32::from(u16::from_be_bytes([body[0], body[1]]));
     }
 
     pub(crate) fn add_trader(&mut self, trader: Trader)

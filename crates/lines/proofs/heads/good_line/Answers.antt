@@ -1,8 +1,6 @@
+use Rattle.std.proofs.Common.{rules}
 use Rattle.lines.proofs.Names.{plain-name}
 use Rattle.lines.proofs.heads.good_line.Goals as goal
 
-pub returns : goal.returns
-returns c = record {
-  text = c.good_text.ensures;
-  ascii = λ low. plain-name _ c.args.good c.args.name.now c.args.owned low c.good_text.ensures;
-}
+pub returns-clause-ascii : goal.returns-clause-ascii
+returns-clause-ascii c = λ low. plain-name _ c.args.good c.args.name.now c.args.owned low (search rules)
