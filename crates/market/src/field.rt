@@ -2,8 +2,8 @@
 
 mod read;
 
-pub use read::next_field;
 pub(crate) use read::bytes_from;
+pub use read::next_field;
 
 // A field: its body, which is a part of the file, and the place of its tag byte.
 #[derive(Clone, Copy)]
