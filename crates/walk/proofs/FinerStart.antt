@@ -3,10 +3,10 @@
 --   mesh-there      the mesh is in range
 --   prices-there    the prices of a corner that an arrived cell keeps are as many as the goods, and add up to the mesh
 --   times-small     f times one of them fits 32 bits
-use Rattle.std.proofs.Common.{◌≡◌, ℕ, ◌+◌, ◌*◌, ◌<◌, ◌≤◌, leb, List, [], ◌∷◌, map, length, get_or, sum, sym, refl, ap, ◌∙◌, subst, mul-le-mul_left, arith}
+use Rattle.std.proofs.Common.{◌≡◌, ℕ, ◌+◌, ◌*◌, ◌<◌, ◌≤◌, List, [], ◌∷◌, map, length, get_or, sum, sym, refl, ap, ◌∙◌, subst, mul-le-mul_left, arith}
 use Rattle.std.proofs.lemmas.List.Sums.{sum_by-cons, get_or-le-sum_by}
-use Rattle.std.proofs.lemmas.Bool.{cond_both}
 use Rattle.mesh.specs.Range.{most}
+use Rattle.mesh.proofs.PointPrices.{most-small}
 use Rattle.mesh.proofs.Levels.{length-prices, sum-prices}
 use Rattle.labelling.specs.Labels.{Rule}
 use Rattle.cells.specs.Triangulation.{Shape, Mesh, Lawful}
@@ -43,5 +43,5 @@ module _ (T : (g D : ℕ) → Mesh Shape g D) (L : Rule) (o : Opening) (lawful :
       let x = prices_on T L o p.leg i in
       let at = prices-there d i there place kept in
       let one : get_or x k 0 ≤ p.leg.mesh = subst (λ n. get_or x k 0 ≤ n) at.1 (get_or-le-sum_by (λ n. n) x k 0 (omega (arith, at.0))) in
-      let most-small : most o.goods ≤ 16384 = cond_both (leb o.goods 4) 16384 128 (λ n. n ≤ 16384) (λ e. omega arith) (λ e. omega arith) in
+      let few : most o.goods ≤ 16384 = most-small o.goods in
       omega (arith, mul-le-mul_left f one)
