@@ -17,3 +17,18 @@ pub fn first_bytes<R: Read + Drop>(heap: Global, input: R, most: usize) -> io::R
 {
     input.bytes().take(most).try_collect(heap)
 }
+
+#[cfg(test)]
+mod tests {
+    use super::first_bytes;
+    use std::test::Fail;
+
+    #[test]
+    fn first_bytes_are_read(rt: HostRuntime) -> Result<(), Fail> {
+        let bytes = first_bytes(rt.alloc(), b"market".as_slice(), 4)?;
+        assert!(rt; bytes.as_slice() == b"mark".as_slice());
+        let few = first_bytes(rt.alloc(), b"ab".as_slice(), 4)?;
+        assert!(rt; few.as_slice() == b"ab".as_slice());
+        Ok(())
+    }
+}
