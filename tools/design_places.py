@@ -15,7 +15,7 @@ NUMBERS = r'u8|u16|u32|u64|i64|usize'
 
 
 def sources(root):
-    """Each source file as (name, lines without ghost lines' ends)."""
+    """Each source file as (name, lines)."""
     for path in sorted(root.glob('crates/*/src/**/*.rt')):
         yield str(path.relative_to(root)), path.read_text().split('\n')
 
