@@ -19,7 +19,7 @@ pub struct Flood<'a, T: Triangulation> {
 }
 
 impl<'a, T: Triangulation> Flood<'a, T> {
-    pub fn new(heap: Global, tri: &'a T, grid: Grid) -> Result<Flood<'a, T>, AllocError> {
+    pub(crate) fn new(heap: Global, tri: &'a T, grid: Grid) -> Result<Flood<'a, T>, AllocError> {
         let cells = Vec::new(heap);
         let mut flood = Flood { tri, grid, cells };
         if let Ok(cell) = flood.start() {
@@ -43,7 +43,7 @@ impl<'a, T: Triangulation> Flood<'a, T> {
     }
 
     // What lies across a place of a cell, with the cell that one is in then: the one across, or at a wall the same.
-    pub fn across(&self, cell: &Cell, place: usize) -> Result<(Cell, Way), Refusal> {
+    pub(crate) fn across(&self, cell: &Cell, place: usize) -> Result<(Cell, Way), Refusal> {
         let mut next = *cell;
         let pair = self.tri.across(self.grid, &mut next, place)?;
         Ok((next, Way::from(pair)))
@@ -69,7 +69,7 @@ impl<'a, T: Triangulation> Flood<'a, T> {
     }
 
     // The place of a cell among those that were met.
-    pub fn find(&self, cell: &Cell) -> Option<usize> {
+    pub(crate) fn find(&self, cell: &Cell) -> Option<usize> {
         self.cells.iter().position(|met| self.same(met, cell))
     }
 }

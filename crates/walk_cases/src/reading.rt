@@ -19,7 +19,7 @@ pub struct ParsedOpening {
 }
 
 impl ParsedOpening {
-    pub fn opening(&self) -> Opening<'_> {
+    pub(crate) fn opening(&self) -> Opening<'_> {
         Opening {
             number: self.number,
             goods: self.goods,
