@@ -25,18 +25,14 @@ none-above k (c ∷ cs) [] low = refl
 none-above k (c ∷ cs) (x ∷ xs) low =
     cond-false _ _ _ (le-ltb c x (low 0 (omega arith))) ∙ none-above (suc k) cs xs (λ i below. low (suc i) (omega arith))
 
--- The label as the code finds it, from a table of eight prices.
-module _ (p : PricePoint) (v table : List ℕ) (size : length table ≡ 8) (entries : (j : ℕ) → j < 8 → get_or table j 0 ≡ get_or (to_prices v) j 0) where
-  pub label-at : (j : ℕ) → j < length (prices_of p) → get_or (prices_of p) j 0 < get_or table j 0
-      → ((k : ℕ) → k < j → get_or table k 0 ≤ get_or (prices_of p) k 0) → j + 1 ≡ outer_label (prices_of p) v
-  label-at j inside high low =
-      let few : length (prices_of p) ≤ 8 = omega (arith, prices-size p, p.grid.goods_fit.1) in
-      sym (above-at 0 (prices_of p) (to_prices v) j inside (omega (arith, entries j (omega arith))) (λ k below. omega (arith, entries k (omega arith), low k below)) ∙ omega arith)
+-- The label as the code finds it.
+module _ (p : PricePoint) (v : List ℕ) where
+  pub label-at : (j : ℕ) → j < length (prices_of p) → get_or (prices_of p) j 0 < get_or (to_prices v) j 0
+      → ((k : ℕ) → k < j → get_or (to_prices v) k 0 ≤ get_or (prices_of p) k 0) → j + 1 ≡ outer_label (prices_of p) v
+  label-at j inside high low = sym (above-at 0 (prices_of p) (to_prices v) j inside high low ∙ omega arith)
 
-  pub label-none : ((k : ℕ) → k < length (prices_of p) → k < length table → get_or table k 0 ≤ get_or (prices_of p) k 0) → 0 ≡ outer_label (prices_of p) v
-  label-none low =
-      let few : length (prices_of p) ≤ 8 = omega (arith, prices-size p, p.grid.goods_fit.1) in
-      sym (none-above 0 (prices_of p) (to_prices v) (λ k below. omega (arith, entries k (omega arith), low k below (omega arith))))
+  pub label-none : ((k : ℕ) → k < length (prices_of p) → get_or (to_prices v) k 0 ≤ get_or (prices_of p) k 0) → 0 ≡ outer_label (prices_of p) v
+  label-none low = sym (none-above 0 (prices_of p) (to_prices v) low)
 
 -- Where the prices add up to more, some price is above.
 pub above-there : (k : ℕ) (c x : List ℕ) → length c ≡ length x → sum c < sum x

@@ -1,5 +1,5 @@
 -- One trader more, in what is demanded of a good.
-use Rattle.std.proofs.Common.{◌≡◌, ℕ, zero, suc, ◌+◌, ◌-◌, ◌*◌, ◌<◌, ◌≤◌, List, [], ◌∷◌, length, get_or, take, sym, refl, ap, ◌∙◌, subst, mul-le-mul, arith}
+use Rattle.std.proofs.Common.{◌≡◌, ℕ, zero, suc, ◌+◌, ◌-◌, ◌*◌, ◌<◌, ◌≤◌, List, [], ◌∷◌, length, get_or, take, take_all, sym, refl, ap, ◌∙◌, subst, mul-le-mul, arith}
 use Rattle.std.proofs.lemmas.List.{map_more}
 use Rattle.std.proofs.lemmas.List.Sums.{sum_by_push}
 use Rattle.mesh.specs.Prices.{price}
@@ -29,6 +29,10 @@ module _ (g a : ℕ) (rows : List Trader) (low_row : a < length rows) (j : ℕ) 
       dot-take (x ∷ xs) ys zero few = absurd (omega arith)
       dot-take (x ∷ xs) [] (suc g) few = refl
       dot-take (x ∷ xs) (y ∷ ys) (suc g) few = ap (λ n. x * y + n) (dot-take xs ys g (omega arith))
+
+-- All of a list, from its first item on.
+pub all_of : (n : ℕ) (xs ys : List Trader) → xs ≡ ys → length xs ≤ n → take n xs ≡ ys
+all_of n xs ys same few = take_all n xs few ∙ same
 
 pub spent_more : (g i s w y j : ℕ) (rows all : List Trader) (x : List ℕ) (p : PricePoint) → rows ≡ all → i < length rows → x ≡ prices_of p → goods_of p ≡ g
     → 1 ≤ j → j ≤ g → s ≡ demand (traders_in g (take i all)) x j

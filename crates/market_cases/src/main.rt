@@ -2,9 +2,10 @@
 #![tactic(auto)]
 
 use input::decode;
-use lines::{Letters, fault_line};
+use lines::Letters;
 use market::file::MarketFile;
 use market::market::Market;
+use mesh::refusal::Refusal;
 use std::fmt;
 
 // What a file says: its goods and their names, the sum of the weights, its traders, and what is owned.
@@ -42,6 +43,14 @@ impl<'a> fmt::Display for Said<'a> {
     }
 }
 
+// The line of a fault, made without memory.
+fn print_fault(rt: &HostRuntime, refusal: Refusal) -> anyhow::Result<()> {
+    let number = refusal.number();
+    let place = refusal.carried().unwrap_or(0);
+    println!(rt; "fault {number} at {place}")?;
+    Ok(())
+}
+
 fn main(rt: HostRuntime) -> anyhow::Result<()> {
     for line in rt.lines(rt.alloc()) {
         let line = line?;
@@ -52,7 +61,7 @@ fn main(rt: HostRuntime) -> anyhow::Result<()> {
                 file: &file,
                 market: &market,
             })?,
-            Err(refusal) => rt.println(fault_line(rt.alloc(), refusal)?)?,
+            Err(refusal) => print_fault(&rt, refusal)?,
         }
     }
     Ok(())

@@ -1,6 +1,7 @@
 -- The levels of a price point, and a price point from levels.
-use Rattle.std.proofs.Common.{◌≡◌, ℕ, ◌≤◌, ◌<◌, true, List, length, get_or, take, drop, sum, sym, ap, ◌∙◌, arith}
-use Rattle.std.proofs.lemmas.List.{length-take}
+use Rattle.std.proofs.Common.{◌≡◌, ℕ, ◌+◌, ◌≤◌, ◌<◌, true, List, [], length, get_or, take, drop, sum, sym, ap, ◌∙◌, arith}
+use Rattle.std.proofs.lemmas.List.{length-take, get_or-take, drop_all}
+use Rattle.std.proofs.lemmas.List.Sums.{sum_by-drop_more, sum_by-take-drop}
 use Rattle.std.proofs.lemmas.Bool.{and_parts, eqb-true}
 use Rattle.tables.proofs.Made.{front}
 use Rattle.mesh.specs.Prices.{first, Falls, to_prices, to_levels}
@@ -14,8 +15,29 @@ module _ (p : PricePoint) where
   pub prices-size : length (prices_of p) ≡ goods_of p
   prices-size = length-take (goods_of p) p.prices ∙ omega (arith, p.room, p.grid.goods_fit.1)
 
+  -- The sum of the prices from a place on is one more price than that from the next.
+  pub sum-more : (j : ℕ) → j < goods_of p → sum (drop j (prices_of p)) ≡ get_or p.prices j 0 + sum (drop (j + 1) (prices_of p))
+  sum-more j h =
+      sum_by-drop_more (λ n. n) (prices_of p) j 0 (omega (arith, prices-size))
+      ∙ ap (λ n. n + sum (drop (j + 1) (prices_of p))) (get_or-take (goods_of p) p.prices j 0 h)
+
+  -- From the last good on it is the last price.
+  pub sum-last : (j : ℕ) → j + 1 ≡ goods_of p → sum (drop j (prices_of p)) ≡ get_or p.prices j 0
+  sum-last j h =
+      let none : drop (j + 1) (prices_of p) ≡ [] = drop_all (j + 1) (prices_of p) (omega (arith, prices-size)) in
+      let zero : sum (drop (j + 1) (prices_of p)) ≡ 0 = ap sum none in
+      omega (arith, sum-more j (omega arith))
+
+  -- It is at most the mesh.
+  pub levels-small : (j : ℕ) → sum (drop j (prices_of p)) ≤ mesh_of p
+  levels-small j = omega (arith, sum_by-take-drop (λ n. n) (prices_of p) j, p.adds_up)
+
+  -- No price is above the mesh.
+  pub price-below-mesh : (j : ℕ) → j < goods_of p → get_or p.prices j 0 ≤ mesh_of p
+  price-below-mesh j h = omega (arith, sum-more j h, levels-small j)
+
   -- What is known of a table of these sums.
-  pub levels-known : (r : List ℕ) → length r ≡ 8 → ((j : ℕ) → j < 8 → get_or r j 0 ≡ sum (drop j (prices_of p)))
+  pub levels-known : (r : List ℕ) → length r ≡ 8 → ((j : ℕ) → j < goods_of p → get_or r j 0 ≡ sum (drop j (prices_of p)))
       → (take (goods_of p) r ≡ to_levels (prices_of p))
       × (to_prices (take (goods_of p) r) ≡ prices_of p)
       × Falls (take (goods_of p) r)
@@ -24,7 +46,7 @@ module _ (p : PricePoint) where
       let few = p.grid.goods_fit.1 in
       let size : length (to_levels (prices_of p)) ≡ goods_of p = length-levels (prices_of p) ∙ prices-size in
       let e : take (goods_of p) r ≡ to_levels (prices_of p)
-      = front (to_levels (prices_of p)) r (goods_of p) 0 size (omega arith) (λ j h. sums j (omega arith) ∙ sym (level-is (prices_of p) j (omega (arith, prices-size)))) in (
+      = front (to_levels (prices_of p)) r (goods_of p) 0 size (omega arith) (λ j h. sums j h ∙ sym (level-is (prices_of p) j (omega (arith, prices-size)))) in (
         e,
         ap to_prices e ∙ prices-levels (prices_of p),
         rw e (falls-levels (prices_of p)),

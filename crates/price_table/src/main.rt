@@ -1,7 +1,7 @@
 // Reads a market file, and prints its goods, its traders, and a line for each price point of mesh 4.
 #![tactic(auto)]
 
-use input::first_bytes;
+use input::fill;
 use lines::{LineError, fault_line, good_line, point_line, traders_line};
 use market::file::MarketFile;
 use market::market::Market;
@@ -54,8 +54,9 @@ fn print_points(rt: &HostRuntime, market: &Market) -> io::Result<()> {
 }
 
 fn main(rt: HostRuntime) -> io::Result<()> {
-    let bytes = first_bytes(rt.alloc(), rt.stdin(), MOST_BYTES)?;
-    let file = MarketFile::open(bytes.as_slice());
+    let mut bytes = [0u8; MOST_BYTES];
+    let len = fill(&mut rt.stdin(), &mut bytes)?;
+    let file = MarketFile::open(&bytes[..len]);
     match file.market() {
         Ok(market) => {
             print_head(&rt, &file, &market)?;

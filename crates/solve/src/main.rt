@@ -2,7 +2,7 @@
 #![tactic(auto)]
 
 use cells::Triangulation;
-use input::first_bytes;
+use input::fill;
 use labelling::Labelling;
 use lines::{LineError, arrival_line, fault_line, open_line};
 use market::file::MarketFile;
@@ -36,10 +36,12 @@ fn arrived_line<T: Triangulation, L: Labelling>(
     run: &Run<T, L>,
 ) -> Result<String, LineError> {
     let look = run.look();
-    let corners: Vec<[u32; 8]> = (1..=look.goods)
-        .map(|label| run.look_for(label).map_err(LineError::from))
-        .try_collect(heap)?;
-    Ok(arrival_line(heap, look.mesh, look.count, look.goods, corners.as_slice())?)
+    let mut table = [[0u32; 8]; 8];
+    let corners = &mut table[..look.goods.min(8)];
+    for (corner, label) in corners.iter_mut().zip(1..) {
+        *corner = run.look_for(label)?;
+    }
+    Ok(arrival_line(heap, look.mesh, look.count, look.goods, corners)?)
 }
 
 // Walks on one mesh, prints its line, and answers the ticket of an arrival.
@@ -91,8 +93,9 @@ fn print_walk<'a>(rt: &HostRuntime, tri: &'a K1, market: &'a Market) -> io::Resu
 }
 
 fn main(rt: HostRuntime) -> io::Result<()> {
-    let bytes = first_bytes(rt.alloc(), rt.stdin(), MOST_BYTES)?;
-    let file = MarketFile::open(bytes.as_slice());
+    let mut bytes = [0u8; MOST_BYTES];
+    let len = fill(&mut rt.stdin(), &mut bytes)?;
+    let file = MarketFile::open(&bytes[..len]);
     match file.market() {
         Ok(market) => print_walk(&rt, &K1, &market),
         Err(refusal) => rt.println(fault_line(rt.alloc(), refusal)?),

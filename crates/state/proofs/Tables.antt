@@ -4,11 +4,14 @@
 --   label-set     one label of a table is set
 --   blank-is      a table with no corner placed
 --   shifted-is    a table with one corner dropped and another put in
-use Rattle.std.proofs.Common.{◌≡◌, ℕ, suc, ◌≤◌, cond, eqb, List, [], map, length, get_or, take, set, replicate, sym, ap, ◌∙◌, inl, inr, arith}
+--   moved_down, moved_up    the corners between the two places move on by one
+--   put-at        a corner is put at a place
+use Rattle.std.proofs.Common.{◌≡◌, ℕ, suc, ◌+◌, ◌-◌, ◌<◌, ◌≤◌, min, cond, eqb, List, [], map, length, get_or, take, set, replicate, sym, ap, ◌∙◌, inl, inr, arith}
+use Rattle.std.specs.List.{CopiedTo, SameBelow, SameFrom}
 use lib.ListN.{get_or-map}
 use lib.Seq.{take-nil, take-set-lt}
-use Rattle.std.proofs.lemmas.List.{get_or-take, map-set, take-replicate, length-take-le, length-map}
-use Rattle.std.proofs.lemmas.Bool.{cases_eq, cond-true, cond-false, eq-eqb, ne_eqb}
+use Rattle.std.proofs.lemmas.List.{get_or-take, get_or-set_same, get_or-set_other, map-set, take-replicate, length-take-le, length-map}
+use Rattle.std.proofs.lemmas.Bool.{cases_eq, cases_lt, cond-true, cond-false, eq-eqb, ne_eqb}
 use Rattle.std.proofs.lemmas.Bool.Decides.{nat_tests}
 use Rattle.state.specs.declared.corner.Corner.{Corner}
 use Rattle.state.specs.Views.{corner_of, corners_of, corner_at, labelling, came_from, shifted}
@@ -61,3 +64,50 @@ shifted-is g table next d k c in_Cell room unlabelled places =
           | inr ne ↦ ap (corner_of g) (cond-false _ c (old i) (ne_eqb i k ne)) ∙ sym (corner-in g table (came_from d k i) (came-low g d k i low in_Cell ne))
               ∙ sym (cond-false _ _ _ (ne_eqb i k ne))
         ]
+
+-- The old places of the corners before both places, between them, and after both.
+came-before : (d k i : ℕ) → i < k → i < d → came_from d k i ≡ i
+came-before d k i before kept = grind (arith, nat_tests)
+
+came-next : (d k i : ℕ) → i < k → d ≤ i → came_from d k i ≡ i + 1
+came-next d k i before gone = grind (arith, nat_tests)
+
+came-after : (d k i : ℕ) → k < i → d < i → came_from d k i ≡ i
+came-after d k i after gone = grind (arith, nat_tests)
+
+came-last : (d k i : ℕ) → k < i → i ≤ d → came_from d k i ≡ i - 1
+came-last d k i after kept = grind (arith, nat_tests)
+
+module _ (xs ys : List Corner) (d k gap : ℕ) (is : gap ≡ min d 8) where
+  pub moved_down : gap < k → k ≤ 8 → CopiedTo xs ys (gap + 1) gap ((k + 1) - (gap + 1)) → SameBelow xs ys gap → SameFrom xs ys (gap + ((k + 1) - (gap + 1)))
+      → (i : ℕ) → i ≤ 8 → (i ≡ k → ⊥) → get_or ys i none ≡ get_or xs (came_from d k i) none
+  moved_down before low copied below from i in_Cell other =
+      let gone : gap ≡ d = omega (arith, is) in
+      elim (cases_lt i gap) [
+        | inl h ↦ below i none h ∙ ap (λ n. get_or xs n none) (sym (came-before d k i (omega arith) (omega arith)))
+        | inr h ↦ elim (cases_lt i k) [
+          | inl l ↦ let e : (gap + 1) + (i - gap) ≡ i + 1 = omega arith in
+              copied i none h (omega arith) ∙ ap (λ n. get_or xs n none) (e ∙ sym (came-next d k i l (omega arith)))
+          | inr l ↦ from i none (omega arith) ∙ ap (λ n. get_or xs n none) (sym (came-after d k i (omega arith) (omega arith)))
+        ]
+      ]
+
+  pub moved_up : k ≤ gap → CopiedTo xs ys k (k + 1) (gap - k) → SameBelow xs ys (k + 1) → SameFrom xs ys ((k + 1) + (gap - k))
+      → (i : ℕ) → i ≤ 8 → (i ≡ k → ⊥) → get_or ys i none ≡ get_or xs (came_from d k i) none
+  moved_up before copied below from i in_Cell other =
+      elim (cases_lt i k) [
+        | inl h ↦ below i none (omega arith) ∙ ap (λ n. get_or xs n none) (sym (came-before d k i h (omega (arith, is))))
+        | inr h ↦ elim (cases_lt gap i) [
+          | inl l ↦ from i none (omega arith) ∙ ap (λ n. get_or xs n none) (sym (came-after d k i (omega arith) (omega (arith, is))))
+          | inr l ↦ let e : k + (i - (k + 1)) ≡ i - 1 = omega arith in
+              copied i none (omega arith) (omega arith) ∙ ap (λ n. get_or xs n none) (e ∙ sym (came-last d k i (omega arith) (omega (arith, is))))
+        ]
+      ]
+
+pub put-at : (g : ℕ) (ys : List Corner) (k : ℕ) (c : Corner) (old : ℕ → Corner) → k < length ys → ((i : ℕ) → i ≤ g → (i ≡ k → ⊥) → get_or ys i none ≡ old i)
+    → (i : ℕ) → i ≤ g → get_or (set ys k c) i none ≡ cond (eqb i k) c (old i)
+put-at g ys k c old room others i low =
+    elim (cases_eq i k) [
+      | inl e ↦ (rw e (get_or-set_same ys k c none room)) ∙ sym (cond-true (eqb i k) c (old i) (eq-eqb i k e))
+      | inr ne ↦ get_or-set_other ys k i c none ne ∙ others i low ne ∙ sym (cond-false (eqb i k) c (old i) (ne_eqb i k ne))
+    ]

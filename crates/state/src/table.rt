@@ -1,23 +1,13 @@
 // The table of the corners of a cell.
 ghost use Rattle.std.specs.Prelude.{◌≡◌, ℕ, suc, ◌≤◌, take, replicate, slice_set};
-ghost use Rattle.state.specs.Views.{corner_of, corners_of, labelling, shifted, came_from};
+ghost use Rattle.state.specs.Views.{corner_of, corners_of, labelling, shifted};
 
 use crate::corner::Corner;
-use std::array;
 
 // The corners of a cell by their places: one more than there are goods. The records past them never matter.
 #[derive(Clone, Copy)]
 pub struct Table {
     pub records: [Corner; 9],
-}
-
-// The old place of the corner at i, where one is dropped and another put in.
-fn came_from(dropped: usize, place: usize, i: usize) -> usize
-    requires { i ≤ 8 }
-    ensures { result ≡ came_from dropped place i }
-{
-    let k = if place < i { i - 1 } else { i };
-    if k < dropped { k } else { k + 1 }
 }
 
 impl Table {
@@ -49,22 +39,20 @@ impl Table {
         self.records[i].label = label;
     }
 
-    // The table with one corner dropped and another put in, which has no label.
-    pub(crate) fn shift(&self, dropped: usize, place: usize, levels: &[u32; 8]) -> Table
+    // One corner is dropped and another put in, which has no label. The corners between the two places move on by one.
+    pub(crate) fn shift(&mut self, dropped: usize, place: usize, levels: &[u32; 8])
         requires { place ≤ 8 }
-        ensures { (g : ℕ) → g ≤ 8 → place ≤ g → corners_of g result.records ≡ shifted g (corners_of g self.now.records) dropped place (take g levels.now) }
+        ensures { (g : ℕ) → g ≤ 8 → place ≤ g → corners_of g self.new.records ≡ shifted g (corners_of g self.old.records) dropped place (take g levels.now) }
     {
-        let corner = Corner {
+        let gap = dropped.min(8);
+        if gap < place {
+            self.records.copy_within(gap + 1..place + 1, gap);
+        } else {
+            self.records.copy_within(place..gap, place + 1);
+        }
+        self.records[place] = Corner {
             levels: *levels,
             label: 0,
         };
-        let records = array::from_fn(|i| {
-            if i == place {
-                corner
-            } else {
-                self.records[came_from(dropped, place, i)]
-            }
-        });
-        Table { records }
     }
 }

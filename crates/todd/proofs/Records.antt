@@ -1,7 +1,7 @@
 -- Records that hold a cell: the entries of their tables, and one step from corner to corner.
 use Rattle.std.proofs.Common.{◌≡◌, ℕ, zero, suc, ◌+◌, ◌-◌, ◌<◌, ◌≤◌, Bool, true, false, not, List, [], ◌∷◌, length, get_or, take, set, sym, refl, ap, ◌∙◌, ⊎_elim, add-one, arith}
 use Rattle.std.proofs.Math.Seq.{take-set-lt}
-use Rattle.std.proofs.lemmas.List.{get_or-take, length-take}
+use Rattle.std.proofs.lemmas.List.{get_or-take, get_or_past, length-take}
 use Rattle.mesh.specs.Prices.{first, Falls}
 use Rattle.mesh.specs.declared.grid.Grid.{Grid}
 use Rattle.mesh.proofs.PointPrices.{grid-small}
@@ -12,7 +12,7 @@ use Rattle.cells.specs.declared.cell.Cell.{Cell}
 use Rattle.todd_laws.specs.Steps.{level, step, shift, nth}
 use Rattle.todd_laws.specs.J1.{upward, turned}
 use Rattle.todd_laws.specs.Records.{Holds, corner_at}
-use Rattle.todd_laws.proofs.Bridge.{shift_same}
+use Rattle.todd_laws.proofs.Bridge.{shift_same, shift-other}
 
 pub shape_is : (b c o p : List ℕ) (u v : List Bool) → b ≡ c → o ≡ p → u ≡ v
     → ◌≡◌ {A = Shape} (record { base = b; order = o; ups = u }) (record { base = c; order = p; ups = v })
@@ -97,3 +97,41 @@ corner-more d c holds k h j is up way levels after e moves =
     moved_in d c holds (suc k) (omega arith) (omega arith) j there k (omega arith) up levels after e moves
     ∙ ap (λ u. shift u (corner_at d c k) (nth (shape_of d.goods c).order (suc k))) (way-is d c holds (suc k) (omega arith) (omega arith) j there up way)
     ∙ ap (corner_at d c) (sym (add-one k))
+
+module _ (d : Grid) (c : Cell) (holds : Holds d c) where
+  corner-long : (k : ℕ) → k ≤ d.goods → length (corner_at d c k) ≡ d.goods
+  corner-long k h = (holds.corners k h).size
+
+  -- There is no level past the last.
+  pub level-past : (k j : ℕ) → k ≤ d.goods → d.goods < j → 0 ≡ level (corner_at d c k) j
+  level-past k j h l = sym (get_or_past (corner_at d c k) (j - 1) 0 (omega (arith, corner-long k h)))
+
+  -- The level that the order has next moves.
+  pub level-moves : (k j x y : ℕ) (up : Bool) → k < d.goods → get_or c.order k 0 ≡ j → up ≡ get_or c.ups (j - 1) true → (x < 4294967295 → y ≡ step up x)
+      → x ≡ level (corner_at d c k) j → y ≡ level (corner_at d c (k + 1)) j
+  level-moves k j x y up h is way moves e =
+      let g = d.goods in
+      let same : k ≡ suc k - 1 = omega arith in
+      let there : j ≡ get_or c.order (suc k - 1) 0 = sym is ∙ ap (λ n. get_or c.order n 0) same in
+      let m = nth-is d c holds (suc k) (omega arith) (omega arith) j there in
+      let turns = way-is d c holds (suc k) (omega arith) (omega arith) j there up way in
+      let within : j - 1 < length (corner_at d c k)
+      = omega (arith, corner-long k (omega arith), m, holds.order.low k h, holds.order.high k h, get_or-take g c.order k 0 h) in
+      let small : x < 4294967295 = omega (arith, e, corner-small g d.mesh (corner_at d c k) (holds.corners k (omega arith)) (j - 1), grid-small d) in
+      moves small
+      ∙ ap (step up) e
+      ∙ sym (shift_same up (corner_at d c k) j within)
+      ∙ ap (λ u. level (shift u (corner_at d c k) j) j) turns
+      ∙ ap (λ n. level (shift (upward (shape_of g c) (nth (shape_of g c).order (suc k))) (corner_at d c k) n) j) m
+      ∙ ap (λ n. level (corner_at d c n) j) (sym (add-one k))
+
+  -- Every other level stays.
+  pub level-stays : (k j : ℕ) → k < d.goods → 1 ≤ j → (get_or c.order k 0 ≡ j → ⊥) → level (corner_at d c k) j ≡ level (corner_at d c (k + 1)) j
+  level-stays k j h low ne =
+      let g = d.goods in
+      let m = nth (shape_of g c).order (suc k) in
+      let one = holds.order.low k h in
+      let is : m ≡ get_or c.order k 0 = let e : suc k - 1 ≡ k = omega arith in rw e (get_or-take g c.order k 0 h) in
+      let other : j - 1 ≡ m - 1 → ⊥ = λ e. ne (omega (arith, is, one, get_or-take g c.order k 0 h)) in
+      sym (shift-other (upward (shape_of g c) m) (corner_at d c k) m (j - 1) other)
+      ∙ ap (λ n. level (corner_at d c n) j) (sym (add-one k))

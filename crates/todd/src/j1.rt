@@ -64,6 +64,7 @@ impl Triangulation for J1 {
 
     ghost lawful = { λ t g D goods mesh. j1-lawful g D goods mesh };
 
+    #[tactic(auto, using(crate::proofs::Starting::order_up, crate::proofs::Starting::ways_up))]
     fn start(&self, point: &PricePoint) -> Result<Cell, Refusal> {
         if !admits(point) {
             return Err(Refusal::NotAdmitted);

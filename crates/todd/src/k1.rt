@@ -52,6 +52,7 @@ impl Triangulation for K1 {
 
     ghost lawful = { λ t g D goods mesh. k1-lawful g D goods mesh };
 
+    #[tactic(auto, using(crate::proofs::Starting::order_up, crate::proofs::Starting::ways_up))]
     fn start(&self, point: &PricePoint) -> Result<Cell, Refusal> {
         Ok(start_up(point))
     }

@@ -65,29 +65,42 @@ pub(crate) fn corner_of(grid: &Grid, cell: &Cell, place: usize) -> [u32; 8]
     levels
 }
 
-// The wall that keeps level j of a corner from moving by one in a direction.
-fn stop(grid: &Grid, levels: &[u32], up: bool, j: u8) -> Option<Wall>
-    ensures { option_map wall_of result ≡ stop grid.now.mesh up levels.now j }
+// Level j of the corner at a place; 0 past the last level, and 0 is taken for 1. No other level of that corner is made.
+fn level_of(grid: &Grid, cell: &Cell, place: usize, j: usize) -> u32
+    requires { place ≤ grid.now.goods }
+    ensures { Holds grid.now cell.now → result ≡ level (corner_at grid.now cell.now place) j }
 {
-    let here = item(levels, usize::from(j), 0);
-    match (up, j) {
-        (true, 1) => (here == grid.mesh() + 1).then_some(Wall::Outer),
-        (true, _) => {
-            let above = j.saturating_sub(1);
-            (here == item(levels, usize::from(above), 0)).then_some(Wall::Good(above))
-        }
-        (false, 1) if here == grid.mesh() => Some(Wall::Real),
-        (false, _) => (here == item(levels, usize::from(j) + 1, 0)).then_some(Wall::Good(j)),
+    let j = j.max(1);
+    let i = index(j);
+    if i >= grid.goods() {
+        return 0;
     }
+    let up = cell.ups[i];
+    let mut x = cell.base[i];
+    for &k in &cell.order[..place] {
+        if usize::from(k) == j {
+            x = stepped(up, x);
+        }
+    }
+    x
 }
 
-// The same at the corner at a place of a cell.
+// The wall that keeps level j of the corner at a place of a cell from moving by one in a direction.
 pub(crate) fn stop_at(grid: &Grid, cell: &Cell, place: usize, up: bool, j: u8) -> Option<Wall>
     requires { place ≤ grid.now.goods }
     ensures { Holds grid.now cell.now → option_map wall_of result ≡ stop grid.now.mesh up (corner_at grid.now cell.now place) j }
 {
-    let levels = corner_of(grid, cell, place);
-    stop(grid, &levels[..grid.goods()], up, j)
+    let level = usize::from(j);
+    let here = level_of(grid, cell, place, level);
+    match (up, j) {
+        (true, 1) => (here == grid.mesh() + 1).then_some(Wall::Outer),
+        (true, _) => {
+            let above = j.saturating_sub(1);
+            (here == level_of(grid, cell, place, usize::from(above))).then_some(Wall::Good(above))
+        }
+        (false, 1) if here == grid.mesh() => Some(Wall::Real),
+        (false, _) => (here == level_of(grid, cell, place, level + 1)).then_some(Wall::Good(j)),
+    }
 }
 
 // Crosses a cell at a place between the first and the last: the levels on both sides of it change places in the order.

@@ -1,5 +1,5 @@
 // Levels: each is the sum of the prices from its good on.
-ghost use Rattle.std.specs.Prelude.{◌≡◌, ℕ, ◌^◌, ◌<◌, take, drop, IfOk, sum, slice_index};
+ghost use Rattle.std.specs.Prelude.{◌≡◌, ℕ, ◌<◌, take, drop, IfOk, sum, slice_index};
 ghost use Rattle.mesh.specs.Points.{point_of, point_at_levels, levels_fit, goods_of, mesh_of, prices_of};
 ghost use Rattle.mesh.specs.Prices.{first, falls, Falls, to_levels, to_prices};
 ghost use Rattle.mesh.specs.Refusals.{answered};
@@ -8,7 +8,6 @@ use super::PricePoint;
 use crate::grid::Grid;
 use crate::pricing::to_prices;
 use crate::refusal::Refusal;
-use std::array;
 
 // No level is above the one before it.
 fn fall(levels: &[u32]) -> bool
@@ -24,14 +23,6 @@ fn fit(grid: Grid, levels: &[u32]) -> bool
     levels.len() == grid.goods() && levels.first().copied() == Some(grid.mesh()) && fall(levels)
 }
 
-// The sum of the prices from a place on.
-fn sum_from(prices: &[u32], j: usize) -> u32
-    requires { sum prices.now < 2 ^ 32 }
-    ensures { result ≡ sum (drop j prices.now) }
-{
-    prices.iter().skip(j).sum()
-}
-
 impl PricePoint {
     // The level of each good, with zeros after them.
     pub fn levels(&self) -> [u32; 8]
@@ -41,8 +32,11 @@ impl PricePoint {
         ensures fall { Falls (take (goods_of self.now) result) }
         ensures top { first (take (goods_of self.now) result) ≡ mesh_of self.now }
     {
-        let prices = self.prices();
-        array::from_fn(|j| sum_from(prices, j))
+        let mut levels = self.prices;
+        for j in (1..self.grid.goods()).rev() {
+            levels[j - 1] += levels[j];
+        }
+        levels
     }
 
     // The point with these levels. Refuses goods and mesh out of range as `new` does, then anything but that many levels falling from the mesh.

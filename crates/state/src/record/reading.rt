@@ -44,7 +44,14 @@ impl State {
     }
 
     // The levels of the newest corner.
-    pub fn newest_levels(&self) -> &[u32]
+    pub fn newest_levels(&self) -> [u32; 8]
+        ensures { take (goods_of self.now) result ≡ levels_at (view_of self.now) self.now.newest }
+    {
+        self.levels_at(self.newest)
+    }
+
+    // The same, borrowed from the record, as many as there are goods.
+    pub fn newest_row(&self) -> &[u32]
         ensures levels { result.now ≡ levels_at (view_of self.now) self.now.newest }
         ensures size { length result.now ≡ goods_of self.now }
     {
@@ -55,7 +62,7 @@ impl State {
     pub fn is_proper(&self, label: u8) -> bool
         ensures { result ≡ is_proper (goods_of self.now) (levels_at (view_of self.now) self.now.newest) label }
     {
-        is_proper(self.newest_levels(), label)
+        is_proper(self.newest_row(), label)
     }
 
     // The place of a corner that carries the label, other than the one at a given place.

@@ -29,7 +29,7 @@ impl State {
         ensures prices { take (goods_of self.old) result.prices ≡ to_prices (levels_at (view_of self.old) self.old.newest) }
         ensures label { result.label ≡ label }
     {
-        let prices = to_prices(self.newest_levels());
+        let prices = to_prices(self.newest_row());
         let halt = Halt { prices, label };
         self.corners.set_label(self.newest, label);
         self.stage = Stage::Halted(halt);
@@ -55,7 +55,7 @@ impl State {
             return Err(Refusal::WayBlocked);
         }
         self.corners.set_label(self.newest, label);
-        self.corners = self.corners.shift(dropped, entry.place, &entry.levels);
+        self.corners.shift(dropped, entry.place, &entry.levels);
         self.cell = entry.cell;
         self.newest = entry.place;
         self.count += 1;

@@ -24,11 +24,11 @@ fn finer_mesh(goods: usize, mesh: u32, factor: u32) -> Result<u32, Refusal>
     if !(2..=64).contains(&factor) {
         return Err(Refusal::FactorOutOfRange);
     }
-    let finer = factor.saturating_mul(mesh);
-    if finer > finest(goods) {
+    let finer = u64::from(factor) * u64::from(mesh);
+    if finer > u64::from(finest(goods)) {
         return Err(Refusal::FinerThanFinest);
     }
-    Ok(finer)
+    Ok(finer as u32)
 }
 
 impl<'a, T: Triangulation, L: Labelling> Run<'a, T, L> {

@@ -38,7 +38,7 @@ impl<'a, T: Triangulation, L: Labelling> Run<'a, T, L> {
     fn newest_label(&self) -> u8
         ensures { Corner (goods_of self.now.state) self.now.state.start.grid.mesh (levels_at (view_of self.now.state) self.now.state.newest) → result ≡ label_now (L.rule self.now.labels.now) (view_of self.now.state) }
     {
-        label_of(self.labels, &self.state.start, self.state.newest_levels())
+        label_of(self.labels, &self.state.start, self.state.newest_row())
     }
 }
 
@@ -54,10 +54,14 @@ fn cross<T: Triangulation>(
 {
     let grid = state.start.grid();
     let mut cell = state.cell;
-    let way = tri.across(grid, &mut cell, dropped)?;
+    let Ok(way) = tri.across(grid, &mut cell, dropped) else {
+        return Err(Refusal::WayBlocked);
+    };
     match Way::from(way) {
         Way::Moved(place) => {
-            let levels = tri.corner(grid, &cell, place)?;
+            let Ok(levels) = tri.corner(grid, &cell, place) else {
+                return Err(Refusal::WayBlocked);
+            };
             let entry = Entry {
                 cell,
                 place,

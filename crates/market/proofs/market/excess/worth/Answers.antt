@@ -1,14 +1,15 @@
-use Rattle.std.proofs.Common.{◌≡◌, ◌*◌, ◌<◌, length, get_or, ap, ◌∙◌, arith, rules}
+use Rattle.std.proofs.Common.{◌≡◌, ℕ, ◌-◌, ◌*◌, ◌<◌, List, length, get_or, take, drop, ap, ◌∙◌, arith, rules}
 use Rattle.std.proofs.lemmas.List.{length_push}
 use Rattle.std.proofs.lemmas.Slice.Zip.{zip_turn}
 use Rattle.trade.proofs.Dots.{dot-more}
-use Rattle.market.proofs.Worth.{worth-bound}
+use Rattle.market.proofs.Worth.{worth-bound, from_first}
 use Rattle.market.proofs.market.excess.worth.Goals as goal
 
 pub loop-price-preserved : goal.loop-price-preserved
 loop-price-preserved c =
     let x = c.args.prices.now in
     let k = length c.loop-price.yielded in
+    let whole : (xs : List ℕ) (n : ℕ) → n ≡ 0 → take (length xs - n) (drop n xs) ≡ xs = from_first in
     let here = zip_turn x c.args.owned.now c.loop-price.yielded _ c.loop-price.price-iterator c.next.new.self c.next.result (search rules) (search rules) c.loop-price.yielded_by (c.in-Some.price, c.in-Some.amount) c.in-Some.is c.next.ensures.steps in
     let price : c.from.result ≡ get_or x k 0 = c.from.ensures ∙ here.2 0 in
     let amount : c.from-in-loop-price.result ≡ get_or c.args.owned.now k 0 = c.from-in-loop-price.ensures ∙ here.3 0 in
