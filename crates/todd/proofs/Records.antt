@@ -135,3 +135,42 @@ module _ (d : Grid) (c : Cell) (holds : Holds d c) where
       let other : j - 1 ≡ m - 1 → ⊥ = λ e. ne (omega (arith, is, one, get_or-take g c.order k 0 h)) in
       sym (shift-other (upward (shape_of g c) m) (corner_at d c k) m (j - 1) other)
       ∙ ap (λ n. level (corner_at d c n) j) (sym (add-one k))
+
+  -- The order has each level once.
+  once : (n k j : ℕ) → n < d.goods → k < d.goods → (n ≡ k → ⊥) → get_or c.order n 0 ≡ j → get_or c.order k 0 ≡ j → ⊥
+  once n k j h l ne is e =
+      let at : (i : ℕ) → i < d.goods → get_or (shape_of d.goods c).order i 0 ≡ get_or c.order i 0 = λ i h. get_or-take d.goods c.order i 0 h in
+      ne (holds.order.apart n k h l (at n h ∙ is ∙ sym e ∙ sym (at k l)))
+
+  counts : (n j : ℕ) → n < d.goods → get_or c.order n 0 ≡ j → (1 ≤ j) × (j ≤ d.goods)
+  counts n j h is =
+      let at = get_or-take d.goods c.order n 0 h in
+      (omega (arith, is, at, holds.order.low n h), omega (arith, is, at, holds.order.high n h))
+
+  -- Before its turn a level is that of the base.
+  pub level-waits : (n j k : ℕ) → get_or c.order n 0 ≡ j → n < d.goods → k ≤ n → level c.base j ≡ level (corner_at d c k) j
+  level-waits n j zero is h l = sym (get_or-take d.goods c.base (j - 1) 0 (omega (arith, counts n j h is)))
+  level-waits n j (suc k) is h l =
+      level-waits n j k is h (omega arith)
+      ∙ level-stays k j (omega arith) (counts n j h is).0 (once n k j h (omega arith) (λ e. omega (arith, e)) is)
+      ∙ ap (λ i. level (corner_at d c i) j) (add-one k)
+
+  -- After it the level moves no more.
+  pub level-moved : (n j m : ℕ) → get_or c.order n 0 ≡ j → n + suc m ≤ d.goods → level (corner_at d c (n + 1)) j ≡ level (corner_at d c (n + suc m)) j
+  level-moved n j zero is h = refl
+  level-moved n j (suc m) is h =
+      let k = n + suc m in
+      let more : k + 1 ≡ n + suc (suc m) = omega arith in
+      level-moved n j m is (omega arith)
+      ∙ level-stays k j (omega arith) (counts n j (omega arith) is).0 (once n k j (omega arith) (omega arith) (λ e. omega (arith, e)) is)
+      ∙ ap (λ i. level (corner_at d c i) j) more
+
+  -- So at every later corner it is the level of the base moved by one.
+  pub level-in-turn : (n j k x y : ℕ) (up : Bool) → get_or c.order n 0 ≡ j → n < k → k ≤ d.goods → up ≡ get_or c.ups (j - 1) true → (x < 4294967295 → y ≡ step up x)
+      → x ≡ level c.base j → y ≡ level (corner_at d c k) j
+  level-in-turn n j k x y up is h l way moves e =
+      let m = k - suc n in
+      let more : n + suc m ≡ k = omega (arith, h) in
+      level-moves n j x y up (omega arith) is way moves (e ∙ level-waits n j n is (omega arith) (omega arith))
+      ∙ level-moved n j m is (omega (arith, more))
+      ∙ ap (λ i. level (corner_at d c i) j) more

@@ -37,7 +37,7 @@ impl Member for J1 {
     fn cross_first(grid: &Grid, cell: &mut Cell) -> Way {
         let j = cell.order[0];
         let up = upward(cell, j);
-        if let Some(wall) = stop_at(grid, cell, 1, up, j) {
+        if let Some(wall) = stop_at(grid, cell, 1, up, 0) {
             return Way::Stopped(wall);
         }
         shift_level(&mut cell.base, up, j);
@@ -51,7 +51,7 @@ impl Member for J1 {
         let goods = grid.goods();
         let j = cell.order[goods - 1];
         let up = upward(cell, j);
-        if let Some(wall) = stop_at(grid, cell, goods - 1, !up, j) {
+        if let Some(wall) = stop_at(grid, cell, goods - 1, !up, goods - 1) {
             return Way::Stopped(wall);
         }
         turn(cell, j);
@@ -79,6 +79,7 @@ impl Triangulation for J1 {
         member::corner::<J1>(&grid, cell, place)
     }
 
+    #[inline(always)]
     fn across(&self, grid: Grid, cell: &mut Cell, place: usize) -> Result<(u8, u8), Refusal> {
         member::across::<J1>(&grid, cell, place)
     }

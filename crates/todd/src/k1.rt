@@ -26,7 +26,7 @@ impl Member for K1 {
     fn cross_first(grid: &Grid, cell: &mut Cell) -> Way {
         let goods = grid.goods();
         let j = cell.order[0];
-        if let Some(wall) = stop_at(grid, cell, goods, true, j) {
+        if let Some(wall) = stop_at(grid, cell, goods, true, 0) {
             return Way::Stopped(wall);
         }
         shift_level(&mut cell.base, true, j);
@@ -38,7 +38,7 @@ impl Member for K1 {
     fn cross_last(grid: &Grid, cell: &mut Cell) -> Way {
         let goods = grid.goods();
         let j = cell.order[goods - 1];
-        if let Some(wall) = stop_at(grid, cell, 0, false, j) {
+        if let Some(wall) = stop_at(grid, cell, 0, false, goods - 1) {
             return Way::Stopped(wall);
         }
         shift_level(&mut cell.base, false, j);
@@ -61,6 +61,7 @@ impl Triangulation for K1 {
         member::corner::<K1>(&grid, cell, place)
     }
 
+    #[inline(always)]
     fn across(&self, grid: Grid, cell: &mut Cell, place: usize) -> Result<(u8, u8), Refusal> {
         member::across::<K1>(&grid, cell, place)
     }

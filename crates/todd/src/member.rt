@@ -1,4 +1,5 @@
 // What lies across a place of a cell of K1 or J1, and its corners. Their cells are of one form; they differ at the first place and at the last.
+// A crossing does so little that calls in between are a third of what it costs: they are built into their callers.
 ghost use Rattle.std.specs.Prelude.{◌≡◌, ℕ, ◌<◌, ◌≤◌};
 ghost use Rattle.cells.specs.Triangulation.{Shape, Mesh};
 ghost use Rattle.cells.specs.Cells.{CornerAnswer, AcrossAnswer};
@@ -42,6 +43,7 @@ pub(crate) fn corner<M: Member>(grid: &Grid, cell: &Cell, place: usize) -> Resul
 }
 
 // Crosses a cell at a place.
+#[inline(always)]
 fn cross<M: Member>(grid: &Grid, cell: &mut Cell, place: usize) -> Way
     requires { place ≤ grid.now.goods }
     ensures crosses { CrossesIn (M.meaning grid.now.goods grid.now.mesh) cell.old place result cell.new }
@@ -69,6 +71,7 @@ fn numbers(way: Way, place: usize) -> (u8, u8)
 }
 
 // Crosses a cell at a place, and tells it by a pair of numbers.
+#[inline(always)]
 pub(crate) fn across<M: Member>(
     grid: &Grid,
     cell: &mut Cell,

@@ -1,5 +1,5 @@
 // Steps that K1 and J1 share. Every function is safe for any record; what corners and crossings are is said for records that are cells.
-ghost use Rattle.std.specs.Prelude.{◌≡◌, ◌+◌, ◌-◌, ◌<◌, ◌≤◌, true, take, slice_index_or};
+ghost use Rattle.std.specs.Prelude.{◌≡◌, ◌+◌, ◌-◌, ◌<◌, ◌≤◌, true, take, slice_index, slice_index_or};
 ghost use Rattle.std.specs.Option.{option_map};
 ghost use Rattle.cells.specs.Ways.{wall_of, place_of};
 ghost use Rattle.todd_laws.specs.Steps.{level, step, shift, stop};
@@ -75,23 +75,38 @@ fn level_of(grid: &Grid, cell: &Cell, place: usize, j: usize) -> u32
     if i >= grid.goods() {
         return 0;
     }
-    let up = cell.ups[i];
-    let mut x = cell.base[i];
+    let x = cell.base[i];
     for &k in &cell.order[..place] {
+        // The order has each level once.
         if usize::from(k) == j {
-            x = stepped(up, x);
+            return stepped(cell.ups[i], x);
         }
     }
     x
 }
 
-// The wall that keeps level j of the corner at a place of a cell from moving by one in a direction.
-pub(crate) fn stop_at(grid: &Grid, cell: &Cell, place: usize, up: bool, j: u8) -> Option<Wall>
-    requires { place ≤ grid.now.goods }
-    ensures { Holds grid.now cell.now → option_map wall_of result ≡ stop grid.now.mesh up (corner_at grid.now cell.now place) j }
+// The n-th level of the order, from 0 on, at the corner at a place. Before its turn it is that of the base; after it, that one moved by one.
+fn level_in_turn(grid: &Grid, cell: &Cell, place: usize, n: usize) -> u32
+    requires { (place ≤ grid.now.goods) × (n < grid.now.goods) }
+    ensures { Holds grid.now cell.now → result ≡ level (corner_at grid.now cell.now place) (slice_index cell.now.order n) }
 {
-    let level = usize::from(j);
-    let here = level_of(grid, cell, place, level);
+    let j = cell.order[n];
+    let x = item(&cell.base, usize::from(j), 0);
+    if n < place {
+        stepped(upward(cell, j), x)
+    } else {
+        x
+    }
+}
+
+// The wall that keeps the n-th level of the order, from 0 on, from moving by one in a direction at the corner at a place of a cell.
+#[inline(always)]
+pub(crate) fn stop_at(grid: &Grid, cell: &Cell, place: usize, up: bool, n: usize) -> Option<Wall>
+    requires { (place ≤ grid.now.goods) × (n < grid.now.goods) }
+    ensures { Holds grid.now cell.now → option_map wall_of result ≡ stop grid.now.mesh up (corner_at grid.now cell.now place) (slice_index cell.now.order n) }
+{
+    let j = cell.order[n];
+    let here = level_in_turn(grid, cell, place, n);
     match (up, j) {
         (true, 1) => (here == grid.mesh() + 1).then_some(Wall::Outer),
         (true, _) => {
@@ -99,7 +114,10 @@ pub(crate) fn stop_at(grid: &Grid, cell: &Cell, place: usize, up: bool, j: u8) -
             (here == level_of(grid, cell, place, usize::from(above))).then_some(Wall::Good(above))
         }
         (false, 1) if here == grid.mesh() => Some(Wall::Real),
-        (false, _) => (here == level_of(grid, cell, place, level + 1)).then_some(Wall::Good(j)),
+        (false, _) => {
+            let below = usize::from(j) + 1;
+            (here == level_of(grid, cell, place, below)).then_some(Wall::Good(j))
+        }
     }
 }
 
@@ -112,7 +130,7 @@ pub(crate) fn cross_middle(grid: &Grid, cell: &mut Cell, place: usize) -> Way
 {
     let j = cell.order[place];
     let up = upward(cell, j);
-    if let Some(wall) = stop_at(grid, cell, place - 1, up, j) {
+    if let Some(wall) = stop_at(grid, cell, place - 1, up, place) {
         return Way::Stopped(wall);
     }
     cell.order.swap(place - 1, place);
