@@ -1,5 +1,5 @@
 // What lies across a place of a cell of K1 or J1, and its corners. Their cells are of one form; they differ at the first place and at the last.
-// A crossing does so little that calls in between are a third of what it costs: they are built into their callers.
+// A crossing does so little that the calls of `across` and `cross` would be a quarter to a third of its instructions: both are built into their callers.
 ghost use Rattle.std.specs.Prelude.{◌≡◌, ℕ, ◌<◌, ◌≤◌};
 ghost use Rattle.cells.specs.Triangulation.{Shape, Mesh};
 ghost use Rattle.cells.specs.Cells.{CornerAnswer, AcrossAnswer};
