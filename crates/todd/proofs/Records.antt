@@ -142,6 +142,7 @@ module _ (d : Grid) (c : Cell) (holds : Holds d c) where
       let at : (i : ℕ) → i < d.goods → get_or (shape_of d.goods c).order i 0 ≡ get_or c.order i 0 = λ i h. get_or-take d.goods c.order i 0 h in
       ne (holds.order.apart n k h l (at n h ∙ is ∙ sym e ∙ sym (at k l)))
 
+  -- Its levels count from 1 to the number of goods.
   counts : (n j : ℕ) → n < d.goods → get_or c.order n 0 ≡ j → (1 ≤ j) × (j ≤ d.goods)
   counts n j h is =
       let at = get_or-take d.goods c.order n 0 h in
@@ -156,7 +157,7 @@ module _ (d : Grid) (c : Cell) (holds : Holds d c) where
       ∙ ap (λ i. level (corner_at d c i) j) (add-one k)
 
   -- After it the level moves no more.
-  pub level-moved : (n j m : ℕ) → get_or c.order n 0 ≡ j → n + suc m ≤ d.goods → level (corner_at d c (n + 1)) j ≡ level (corner_at d c (n + suc m)) j
+  level-moved : (n j m : ℕ) → get_or c.order n 0 ≡ j → n + suc m ≤ d.goods → level (corner_at d c (n + 1)) j ≡ level (corner_at d c (n + suc m)) j
   level-moved n j zero is h = refl
   level-moved n j (suc m) is h =
       let k = n + suc m in

@@ -1,8 +1,7 @@
-use Rattle.std.proofs.Common.{◌≡◌, ◌-◌, ◌+◌, ◌<◌, suc, true, false, length, get_or, sym, ap, ◌∙◌, arith}
+use Rattle.std.proofs.Common.{◌≡◌, ◌-◌, ◌<◌, true, false, length, get_or, sym, ap, ◌∙◌, arith}
 use Rattle.std.proofs.lemmas.List.{get_or-take, get_or_default, length-take}
-use Rattle.todd_laws.specs.Steps.{level}
 use Rattle.todd_laws.specs.Records.{corner_at}
-use Rattle.todd.proofs.Records.{level-moves, level-moved, level-stays}
+use Rattle.todd.proofs.Records.{level-in-turn, level-stays}
 use Rattle.todd.proofs.steps.level_of.Goals as goal
 
 pub returns-then-from-j : goal.returns-then-from-j
@@ -19,11 +18,9 @@ returns-then-from-j c holds =
     let way : get_or s.ups c.index-i.result false ≡ get_or s.ups (j - 1) true
     = get_or_default s.ups c.index-i.result false true long ∙ ap (λ n. get_or s.ups n true) at
     in
-    let moves = level-moves d s holds k j _ _ _ (omega (arith, here, c.requires)) is way c.stepped.ensures (c.loop-k.invariant holds) in
-    let m = c.args.place - suc k in
-    let more : k + suc m ≡ c.args.place = omega (arith, here) in
-    let there = level-moved d s holds k j m is (omega (arith, more, c.requires)) ∙ ap (λ i. level (corner_at d s i) j) more in
-    moves ∙ there ∙ ap (λ i. get_or (corner_at d s c.args.place) i 0) (omega (arith, c.max-j.ensures))
+    let base = ap (λ n. get_or s.base n 0) at in
+    level-in-turn d s holds k j c.args.place _ _ _ is here c.requires way c.stepped.ensures base
+    ∙ ap (λ i. get_or (corner_at d s c.args.place) i 0) (omega (arith, c.max-j.ensures))
 
 pub loop-k-preserved : goal.loop-k-preserved
 loop-k-preserved c holds =
